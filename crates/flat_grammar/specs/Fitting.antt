@@ -1,0 +1,75 @@
+-- The written trees that fit a grammar, and the size of their flat trees.
+use Rattle.std.specs.Prelude.{◌≡◌, ℕ, suc, ◌+◌, ◌<◌, ◌≤ℤ◌, ◌<ℤ◌, ℤ, negsuc, pos, ◌-◌, ◌^◌, List, length, sum_by, Some, None, slice_get, true, false, Contains, All}
+use Rattle.std.specs.List.{AllZip}
+use Rattle.lido_base.specs.declared.ids.SymId.{SymId}
+use Rattle.lido_base.specs.declared.value.ValueType.{ValueType}
+use Rattle.lido_base.specs.declared.value.ValueType.TheVariants as type
+use Rattle.lido_base.specs.declared.operation.Op.{Op}
+use Rattle.lido_base.specs.declared.operation.Op.TheVariants as op
+use Rattle.lido_base.specs.Plain.{Plain, Int, Str}
+use Rattle.lido_base.specs.Tree.{Tree, Node, Item, Child, Leaf, IsTree, items_of, rule_at}
+use Rattle.flat_grammar.specs.declared.flat.FlatSymbol.{FlatSymbol}
+use Rattle.flat_grammar.specs.declared.flat.FlatRule.{FlatRule}
+use Rattle.flat_grammar.specs.declared.flat.FlatComp.{FlatComp}
+use Rattle.flat_grammar.specs.declared.flat.Shape.{Shape}
+use Rattle.flat_grammar.specs.declared.flat.FlatExpr.{FlatExpr, Value, Terminal, Read, Apply', If', Order', Row_of-FlatExpr, end_of-FlatExpr, more_of-FlatExpr}
+use Rattle.flat_grammar.specs.Rules.{attrs_of}
+
+module _ (symbols : List FlatSymbol) (rules : List FlatRule) (shapes : List Shape) (root : SymId) (t : Tree Plain) where
+  abbrev pub HasShape : ℕ → Shape → Type 0
+  HasShape n shape = Contains shapes shape × (rule_at t n ≡ Some shape.rule.0)
+
+  abbrev pub HasSymbol : ℕ → SymId → Type 0
+  HasSymbol n s = (i : ℕ) × (r : FlatRule) × (rule_at t n ≡ Some i) × (slice_get rules i ≡ Some r) × (r.left ≡ s)
+
+  abbrev pub IsTerminal : SymId → ValueType → Type 0
+  IsTerminal s ty = (x : FlatSymbol) × (slice_get symbols s.0 ≡ Some x) × (x.terminal ≡ Some ty)
+
+  -- what may stand for the symbol
+  pub data IsItem (s : SymId) : Item Plain → Type 0 where
+    node : {c : ℕ} → HasSymbol c s → IsItem s (Child c)
+    int : {z : ℤ} → IsTerminal s type.Int → negsuc (2 ^ 63 - 1) ≤ℤ z → z <ℤ pos (2 ^ 63) → IsItem s (Leaf (Int z))
+    string : {bytes : List ℕ} → IsTerminal s type.Str → IsItem s (Leaf (Str bytes))
+
+  pub record IsFitting : Type 0 where
+    pub tree : IsTree t
+    pub root_node : HasSymbol 0 root
+    pub shaped : (n : ℕ) → n < length t → (shape : Shape) × HasShape n shape
+    pub plain : (n : ℕ) (shape : Shape) → HasShape n shape → shape.list ≡ false → AllZip IsItem shape.right (items_of t n)
+    pub lists : (n : ℕ) (shape : Shape) → HasShape n shape → shape.list ≡ true → All (λ p. (s : SymId) × Contains shape.right s × IsItem s p) (items_of t n)
+
+-- The text operations of an expression count one cell each, and one for each argument.
+abbrev pub own_cells : Op → ℕ → ℕ
+own_cells op.Numb k = suc k
+own_cells op.AsIs k = suc k
+own_cells op.Seq k = suc k
+own_cells (op.Pattern p) k = suc k
+own_cells _ k = 0
+
+abbrev mutual
+  pub cells : FlatExpr → ℕ
+  cells (Value v) = 0
+  cells (Terminal k) = 0
+  cells (Read o) = 0
+  cells (Apply' comp op shape args) = own_cells op (width args) + cells_of_all args
+  cells (If' shape args) = cells_of_all args
+  cells (Order' shape args) = cells_of_all args
+
+  pub cells_of_all : {m : _} → Row_of-FlatExpr m → ℕ
+  cells_of_all end_of-FlatExpr = 0
+  cells_of_all (more_of-FlatExpr e es) = cells e + cells_of_all es
+
+  pub width : {m : _} → Row_of-FlatExpr m → ℕ
+  width end_of-FlatExpr = 0
+  width (more_of-FlatExpr e es) = suc (width es)
+
+module _ {V : Type 0} (symbols : List FlatSymbol) (rules : List FlatRule) (flat : Tree V) where
+  -- a flat node's rule gives the number
+  abbrev pub at_node : (FlatRule → ℕ) → ℕ → ℕ
+  at_node f n = elim (slice_get rules n) [ None ↦ 0 | Some r ↦ f r ]
+
+  abbrev pub instances : ℕ
+  instances = sum_by (λ (node : Node V). at_node (λ r. length (attrs_of symbols r.left)) node.rule) flat
+
+  abbrev pub text_cells : ℕ
+  text_cells = sum_by (λ (node : Node V). at_node (λ r. sum_by (λ (c : FlatComp). cells c.value) r.comps) node.rule) flat

@@ -1,0 +1,51 @@
+-- The flat tree of a written tree: under each list node stands a chain of cells.
+use Rattle.std.specs.Prelude.{◌≡◌, ℕ, ◌<◌, Bool, true, false, ◌&&◌, IsTrue, List, [], ◌∷◌, length, Some, slice_get, Contains}
+use Rattle.std.specs.List.{list_any}
+use Rattle.lido_base.specs.declared.ids.SymId.{SymId}
+use Rattle.lido_base.specs.Tree.{Tree, Item, Child, Leaf, IsTree, rule_at, items_of, children}
+use Rattle.flat_grammar.specs.declared.flat.FlatSymbol.{FlatSymbol}
+use Rattle.flat_grammar.specs.declared.flat.FlatRule.{FlatRule}
+use Rattle.flat_grammar.specs.declared.flat.Shape.{Shape}
+use Rattle.flat_grammar.specs.WellFormed.{cell_of, is_same_symbol}
+
+module _ (symbols : List FlatSymbol) (rules : List FlatRule) (shapes : List Shape) where
+  -- the symbol is the cell of some list
+  abbrev pub is_cell : SymId → Bool
+  is_cell s = list_any (λ shape. shape.list && is_same_symbol s (cell_of symbols rules shape)) shapes
+
+  module _ {V : Type 0} (written flat : Tree V) (node_of : List ℕ) where
+    abbrev pub HasRule : Tree V → ℕ → FlatRule → Type 0
+    HasRule t n r = (i : ℕ) × (rule_at t n ≡ Some i) × (slice_get rules i ≡ Some r)
+
+    -- flat node n is a cell, or stands for a written node
+    abbrev pub IsCellNode : ℕ → Type 0
+    IsCellNode n = (r : FlatRule) × HasRule flat n r × IsTrue (is_cell r.left)
+
+    abbrev pub StandsFor : ℕ → ℕ → Type 0
+    StandsFor n w = ¬ IsCellNode n × (slice_get node_of n ≡ Some w)
+
+    -- the cells from c on have these written nodes as elements, and belong to list node w
+    abbrev pub AreCells : SymId → ℕ → ℕ → List ℕ → Type 0
+    AreCells cell w c [] = (r : FlatRule) × HasRule flat c r × (r.left ≡ cell) × (r.right ≡ []) × (items_of flat c ≡ []) × (slice_get node_of c ≡ Some w)
+    AreCells cell w c (x ∷ xs) = (r : FlatRule) × (element : FlatRule) × (e : ℕ) × (next : ℕ)
+        × HasRule flat c r × HasRule flat e element × (r.left ≡ cell) × (r.right ≡ element.left ∷ cell ∷ [])
+        × (items_of flat c ≡ Child e ∷ Child next ∷ []) × (slice_get node_of c ≡ Some w) × StandsFor e x × AreCells cell w next xs
+
+    -- the items stand for each other
+    abbrev pub AreItems : List (Item V) → List (Item V) → Type 0
+    AreItems [] [] = Unit {0}
+    AreItems (Child n ∷ more) (Child w ∷ rest) = StandsFor n w × AreItems more rest
+    AreItems (Leaf v ∷ more) (Leaf u ∷ rest) = (v ≡ u) × AreItems more rest
+    AreItems _ _ = ⊥
+
+    pub record IsFlatTree : Type 0 where
+      pub tree : IsTree flat
+      pub each_node : length node_of ≡ length flat
+      pub same_root : StandsFor 0 0
+      -- each written node has one flat node, and these stand in the same order
+      pub in_order : (n m w x : ℕ) → StandsFor n w → StandsFor m x → n < m → w < x
+      pub all_written : (w : ℕ) → w < length written → (n : ℕ) × StandsFor n w
+      pub same_rules : (n w : ℕ) → StandsFor n w → rule_at flat n ≡ rule_at written w
+      pub plain_nodes : (n w : ℕ) (shape : Shape) → Contains shapes shape → StandsFor n w → rule_at flat n ≡ Some shape.rule.0 → shape.list ≡ false → AreItems (items_of flat n) (items_of written w)
+      pub list_nodes : (n w : ℕ) (shape : Shape) → Contains shapes shape → StandsFor n w → rule_at flat n ≡ Some shape.rule.0 → shape.list ≡ true
+          → (c : ℕ) × (items_of flat n ≡ Child c ∷ []) × AreCells (cell_of symbols rules shape) w c (children written w)

@@ -1,0 +1,112 @@
+-- A plan is sound: what the visit sequences may do, clause by clause.
+use Rattle.std.specs.Prelude.{◌≡◌, ℕ, zero, suc, ◌+◌, ◌<◌, ◌≤◌, ◌⊎◌, List, [], ◌∷◌, ◌++◌, map, length, take, Bool, true, false, IsTrue, Option, Some, None, slice_get, Contains, All, AllPairs, count_by, nat_eq, flat_map, is_some, ◌↔◌}
+use Rattle.std.specs.List.{AllZip}
+use Rattle.lido_base.specs.declared.kinds.Kind.{Kind}
+use Rattle.lido_base.specs.declared.kinds.Kind.TheVariants.{Synthesized, Inherited}
+use Rattle.lido_base.specs.declared.ids.SymId.{SymId}
+use Rattle.lido_base.specs.declared.ids.AttrId.{AttrId}
+use Rattle.flat_grammar.specs.declared.flat.Occ.{Occ}
+use Rattle.flat_grammar.specs.declared.flat.FlatSymbol.{FlatSymbol}
+use Rattle.flat_grammar.specs.declared.flat.FlatAttr.{FlatAttr}
+use Rattle.flat_grammar.specs.declared.flat.FlatRule.{FlatRule}
+use Rattle.flat_grammar.specs.declared.flat.FlatComp.{FlatComp}
+use Rattle.flat_grammar.specs.declared.plan.VisitClass.{VisitClass}
+use Rattle.flat_grammar.specs.declared.plan.PlanItem.{PlanItem}
+use Rattle.flat_grammar.specs.declared.plan.PlanItem.TheVariants.{Eval, Visit, Leave}
+use Rattle.flat_grammar.specs.Rules.{symbol_at, dependencies}
+use Rattle.flat_grammar.specs.WellFormed.{is_nonterminal, attribute_of}
+
+abbrev pub is_leave : PlanItem → Bool
+is_leave (Leave v) = true
+is_leave _ = false
+
+abbrev pub is_visit_of : ℕ → PlanItem → Bool
+is_visit_of child (Visit k v) = nat_eq k child
+is_visit_of child _ = false
+
+module _ (symbols : List FlatSymbol) (visits : List (List VisitClass)) (r : FlatRule) (seq : List PlanItem) where
+  -- the class of that visit, counted from 1, of the symbol at an occurrence
+  abbrev pub IsClassAt : ℕ → ℕ → VisitClass → Type 0
+  IsClassAt k zero class = ⊥
+  IsClassAt k (suc v) class = (s : SymId) × (row : List VisitClass) × (symbol_at r k ≡ Some s) × (slice_get visits s.0 ≡ Some row) × (slice_get row v ≡ Some class)
+
+  abbrev pub segment_at : ℕ → ℕ
+  segment_at place = 1 + count_by is_leave (take place seq)
+
+  abbrev pub IsEvaluated : ℕ → Occ → Type 0
+  IsEvaluated place o = Contains (take place seq) (Eval o)
+
+  abbrev pub visits_made : ℕ → ℕ → ℕ
+  visits_made place child = count_by (is_visit_of child) (take place seq)
+
+  -- evaluated, or given by a visit of the child that was made, or by the left side's visits up to this one
+  abbrev pub IsAtHand : ℕ → Occ → Type 0
+  IsAtHand place o =
+      IsEvaluated place o
+      ⊎ ((0 < o.occ) × (v : ℕ) × (class : VisitClass) × (v ≤ visits_made place o.occ) × IsClassAt o.occ v class × Contains class.synthesized o.attr)
+      ⊎ ((o.occ ≡ 0) × (v : ℕ) × (class : VisitClass) × (v ≤ segment_at place) × IsClassAt 0 v class × Contains class.inherited o.attr)
+
+  abbrev pub IsEvaluatedAll : ℕ → ℕ → List AttrId → Type 0
+  IsEvaluatedAll place k attrs = All (λ a. IsEvaluated place (record { occ = k; attr = a })) attrs
+
+  -- the clause allows the item to stand at the place
+  abbrev pub Allows : ℕ → ℕ → PlanItem → Type 0
+  Allows zero place (Eval o) = IsTrue (is_some (attribute_of symbols r o))
+  Allows zero place (Visit k v) = (0 < k) × (class : VisitClass) × IsClassAt k v class
+  Allows zero place (Leave v) = (class : VisitClass) × IsClassAt 0 v class
+  Allows (suc zero) place (Eval o) = Contains (map (λ c. c.goal) r.comps) o × ¬ IsEvaluated place o
+  Allows (suc (suc zero)) place (Visit k v) = v ≡ suc (visits_made place k)
+  Allows (suc (suc (suc zero))) place (Visit k v) = (class : VisitClass) → IsClassAt k v class → IsEvaluatedAll place k class.inherited
+  Allows (suc (suc (suc (suc zero)))) place (Eval o) = (c : FlatComp) → Contains r.comps c → c.goal ≡ o → All (IsAtHand place) (dependencies c)
+  Allows (suc (suc (suc (suc (suc zero))))) place (Leave v) = (v ≡ segment_at place) × ((class : VisitClass) → IsClassAt 0 v class → IsEvaluatedAll place 0 class.synthesized)
+  Allows _ _ _ = Unit {0}
+
+  -- the clause allows the sequence to end where it does
+  abbrev pub AllowsEnd : ℕ → Type 0
+  AllowsEnd (suc zero) = All (λ c. IsEvaluated (length seq) c.goal) r.comps
+  AllowsEnd (suc (suc zero)) = (k : ℕ) (s : SymId) (row : List VisitClass) → 0 < k → symbol_at r k ≡ Some s → IsTrue (is_nonterminal symbols s) → slice_get visits s.0 ≡ Some row
+      → visits_made (length seq) k ≡ length row
+  AllowsEnd (suc (suc (suc (suc (suc zero))))) = (before : List PlanItem) × (row : List VisitClass) × (slice_get visits r.left.0 ≡ Some row) × (seq ≡ before ++ Leave (length row) ∷ [])
+  AllowsEnd _ = Unit {0}
+
+  abbrev pub HoldsAt : ℕ → Option PlanItem → ℕ → Type 0
+  HoldsAt place (Some item) clause = Allows clause place item
+  HoldsAt place None clause = AllowsEnd clause
+
+  -- the first fault: the least place, and there the least clause
+  pub record IsFault (place clause : ℕ) : Type 0 where
+    pub within : place ≤ length seq
+    pub broken : ¬ HoldsAt place (slice_get seq place) clause
+    pub first_clause : (c : ℕ) → c < clause → HoldsAt place (slice_get seq place) c
+    pub first_place : (p c : ℕ) → p < place → HoldsAt p (slice_get seq p) c
+
+  abbrev pub IsSoundSequence : Type 0
+  IsSoundSequence = (place clause : ℕ) → place ≤ length seq → HoldsAt place (slice_get seq place) clause
+
+module _ (symbols : List FlatSymbol) (rules : List FlatRule) (visits : List (List VisitClass)) (seqs : List (List PlanItem)) where
+  -- the classes of one kind of a row, one behind the other
+  abbrev pub of_kind : Kind → List VisitClass → List AttrId
+  of_kind Inherited row = flat_map (λ (c : VisitClass). c.inherited) row
+  of_kind Synthesized row = flat_map (λ (c : VisitClass). c.synthesized) row
+
+  -- the number is that of an attribute of this kind
+  abbrev pub IsAttribute : FlatSymbol → Kind → AttrId → Type 0
+  IsAttribute x kind a = (attr : FlatAttr) × (slice_get x.attrs a.0 ≡ Some attr) × (attr.kind ≡ kind)
+
+  -- a symbol's row has each of its attributes once, in a class of its kind, and nothing else
+  pub record IsRow (x : FlatSymbol) (row : List VisitClass) : Type 0 where
+    pub some_visit : is_some x.terminal ≡ nat_eq (length row) 0
+    pub attributes : (kind : Kind) (a : AttrId) → Contains (of_kind kind row) a ↔ IsAttribute x kind a
+    pub once : (kind : Kind) → AllPairs (λ a b. a ≡ b → ⊥) (of_kind kind row)
+
+  abbrev pub HasRows : Type 0
+  HasRows = AllZip IsRow symbols visits × (length seqs ≡ length rules)
+
+  abbrev pub IsSound : Type 0
+  IsSound = HasRows × AllZip (IsSoundSequence symbols visits) rules seqs
+
+  -- the first fault: of the rows, else at the least rule, then the least place, then the least clause
+  pub data IsUnsound : ℕ → ℕ → ℕ → Type 0 where
+    of_rows : ¬ HasRows → IsUnsound 0 0 0
+    of_rule : {i place clause : ℕ} (r : FlatRule) (seq : List PlanItem) → HasRows → slice_get rules i ≡ Some r → slice_get seqs i ≡ Some seq → IsFault symbols visits r seq place clause
+        → AllZip (IsSoundSequence symbols visits) (take i rules) (take i seqs) → IsUnsound i place clause

@@ -1,0 +1,5 @@
+pub mod Pieces
+pub mod TextsLemmas
+pub mod TreeLemmas
+pub mod EquationsLemmas
+pub mod ReachLemmas

@@ -1,0 +1,11 @@
+pub mod formers
+pub mod Causes
+pub mod Inputs
+pub mod Phases
+pub mod Texts
+pub mod Plain
+pub mod Operations
+pub mod Tree
+pub mod Equations
+pub mod Reach
+pub mod Origins

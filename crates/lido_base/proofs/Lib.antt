@@ -3,3 +3,5 @@ pub mod TextsLemmas
 pub mod TreeLemmas
 pub mod EquationsLemmas
 pub mod ReachLemmas
+pub mod OriginsLemmas
+pub mod TreeTests

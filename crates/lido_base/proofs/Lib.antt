@@ -5,3 +5,4 @@ pub mod EquationsLemmas
 pub mod ReachLemmas
 pub mod OriginsLemmas
 pub mod TreeTests
+pub mod PhasesLemmas

@@ -1,0 +1,130 @@
+-- The job with the tree of 3 and 4.
+use Rattle.std.proofs.Common.{◌≡◌, ℕ, ℤ, ◌<◌, List, [], ◌∷◌, ◌++◌, length, codes, pos, Some, None, Ok, refl, arith, rules, zero, suc, inl}
+use Rattle.std.specs.Fmt.{digits, signed_decimal}
+use Rattle.lido_base.specs.Phases.{OneOf}
+use Rattle.tree_reader.specs.declared.form.TreeNode.{TreeNode}
+use Rattle.tree_reader.specs.declared.form.Child.TheVariants as children
+use Rattle.tree_reader.specs.Marks.{Spells}
+use Rattle.tree_reader.specs.Trees.{Forest, none, node, leaf, marks_of, IsTree}
+use Rattle.tree_reader.proofs.Order.{tree_preorder}
+use Rattle.lido_top.specs.declared.job.TheConstants.{SUM_JOB}
+use Rattle.lido_top.specs.declared.words.Command.TheVariants as command
+use Rattle.lido_top.specs.Sums.{value_at, sum_at, AllStay}
+use Rattle.lido_top.specs.Job.{sum_rules, IsResult}
+use Rattle.lido_top.specs.Answer.{AnswerOf}
+use Rattle.lido_top.proofs.SumsLemmas.{only_one}
+
+abbrev tree_text : List ℕ
+tree_text = codes "(rTop (rAdd (rNum 3) (rNum 4)))\n"
+
+abbrev below : Forest
+below = node 1 (node 2 (leaf (pos 3) none) (node 2 (leaf (pos 4) none) none)) none
+
+abbrev nodes : List TreeNode
+nodes =
+    record { rule = 0; parent = None; place = 0; children = children.Node 1 ∷ [] }
+    ∷ record { rule = 1; parent = Some 0; place = 1; children = children.Node 2 ∷ children.Node 3 ∷ [] }
+    ∷ record { rule = 2; parent = Some 1; place = 1; children = children.Int (pos 3) ∷ [] }
+    ∷ record { rule = 2; parent = Some 1; place = 2; children = children.Int (pos 4) ∷ [] }
+    ∷ []
+
+abbrev values : List ℤ
+values = pos 7 ∷ pos 7 ∷ pos 3 ∷ pos 4 ∷ []
+
+spelled : Spells (marks_of sum_rules (node 0 below none)) tree_text
+spelled = (
+  codes "rTop (rAdd (rNum 3) (rNum 4)))\n",
+  refl,
+  refl,
+  refl,
+  (
+    codes "rAdd (rNum 3) (rNum 4)))\n",
+    refl,
+    refl,
+    refl,
+    (
+      codes "rNum 3) (rNum 4)))\n",
+      refl,
+      refl,
+      refl,
+      (
+        omega arith,
+        refl,
+        search rules,
+        (
+          codes " (rNum 4)))\n",
+          refl,
+          (
+            codes "rNum 4)))\n",
+            refl,
+            refl,
+            refl,
+            (
+              omega arith,
+              refl,
+              search rules,
+              (codes "))\n", refl, (codes ")\n", refl, (codes "\n", refl, refl))),
+            ),
+          ),
+        ),
+      ),
+    ),
+  ),
+)
+
+is_tree : IsTree sum_rules tree_text nodes
+is_tree = record {
+  below = below;
+  fits = (omega arith, refl, (omega arith, refl, tt, (omega arith, refl, tt, tt)), tt);
+  text = spelled;
+  top = record { there = omega arith; rule = refl; parent = refl; place = refl; width = refl };
+  shows = (
+    refl,
+    record { there = omega arith; rule = refl; parent = refl; place = refl; width = refl },
+    (
+      refl,
+      record { there = omega arith; rule = refl; parent = refl; place = refl; width = refl },
+      (refl, tt),
+      (refl, record { there = omega arith; rule = refl; parent = refl; place = refl; width = refl }, (refl, tt), tt),
+    ),
+    tt,
+  );
+  all = refl;
+  few = omega arith;
+}
+
+each_sum : (n : ℕ) → n < 4 → value_at values n ≡ sum_at sum_rules nodes values n
+each_sum zero less = refl
+each_sum (suc zero) less = refl
+each_sum (suc (suc zero)) less = refl
+each_sum (suc (suc (suc zero))) less = refl
+each_sum (suc (suc (suc (suc n)))) less = absurd (omega (arith, less))
+
+each_stays : AllStay sum_rules nodes values
+each_stays zero less = (search rules, tt)
+each_stays (suc zero) less = (search rules, (search rules, tt))
+each_stays (suc (suc zero)) less = (search rules, tt)
+each_stays (suc (suc (suc zero))) less = (search rules, tt)
+each_stays (suc (suc (suc (suc n)))) less = absurd (omega (arith, less))
+
+seven : codes "7" ≡ signed_decimal (pos 7)
+unfolding digits
+seven = refl
+
+pub is_result : IsResult (SUM_JOB.now ++ tree_text) (codes "7")
+is_result = record {
+  tree_text = tree_text;
+  job = refl;
+  nodes = nodes;
+  tree = is_tree;
+  values = values;
+  only = only_one sum_rules nodes values (tree_preorder sum_rules tree_text nodes is_tree) (record { all = refl; each = each_sum });
+  stay = each_stays;
+  number = seven;
+}
+
+pub is_answer : AnswerOf (codes "run" ∷ []) (SUM_JOB.now ++ tree_text) (Ok (codes "7"))
+unfolding OneOf
+is_answer =
+    let size : length (SUM_JOB.now ++ tree_text) ≡ 286 = refl in
+    inl (command.Run, refl, inl (tt, omega (arith, size), is_result))

@@ -1,0 +1,70 @@
+//! The steps from an input to its text.
+ghost use Rattle.std.specs.Prelude.{◌≡◌, ◌<◌, string_bytes, length};
+ghost use Rattle.lido_base.specs.Phases.{Gives, OneOf};
+ghost use Rattle.tree_reader.specs.Trees.{IsReadable};
+ghost use Rattle.lido_top.specs.Answer.{TextOf};
+ghost use Rattle.lido_top.specs.Steps.{IsTopText, ValueOf, NumberOf};
+
+use crate::job::{sum_rules, tree_part};
+use crate::status::Status;
+use crate::sums::evaluate;
+use crate::words::Command;
+use std::alloc::{AllocError, Global};
+use tree_reader::{FormFault, SumRule, read_sum_tree};
+
+/// The decimal number of the first value.
+fn top_text(alloc: Global, values: &[i64]) -> Result<String, FormFault>
+    requires { 0 < length values.now }
+    ensures { Gives string_bytes (OneOf (IsTopText values.now) FormFault.Outside) FormFault.Memory result }
+{
+    Ok(values[0].to_string(alloc)?)
+}
+
+/// The text of the sum at the top of the tree.
+#[tactic(auto, unfolding(crate::specs::Steps::ValueOf))]
+fn value_of(alloc: Global, tree_text: &[u8], rules: &[SumRule]) -> Result<String, FormFault>
+    requires { IsReadable rules.now }
+    ensures { Gives string_bytes (ValueOf rules.now tree_text.now) FormFault.Memory result }
+{
+    let nodes = match read_sum_tree(alloc, tree_text, rules) {
+        Ok(nodes) => nodes,
+        Err(e) => return Err(e),
+    };
+    let values = match evaluate(alloc, rules, nodes.as_slice()) {
+        Ok(values) => values,
+        Err(e) => return Err(e),
+    };
+    match top_text(alloc, &values) {
+        Ok(text) => Ok(text),
+        Err(e) => Err(e),
+    }
+}
+
+/// The number that the input calls for, as text.
+#[tactic(auto, unfolding(crate::specs::Steps::NumberOf))]
+fn number_of(alloc: Global, bytes: &[u8]) -> Result<String, FormFault>
+    ensures { Gives string_bytes (NumberOf bytes.now) FormFault.Memory result }
+{
+    let tree_text = match tree_part(bytes) {
+        Ok(tree_text) => tree_text,
+        Err(e) => return Err(e),
+    };
+    let rules = sum_rules(alloc)?;
+    match value_of(alloc, tree_text, rules.as_slice()) {
+        Ok(text) => Ok(text),
+        Err(e) => Err(e),
+    }
+}
+
+/// The text that the command writes for the input, or the status of an input that has none.
+pub fn text_of(alloc: Global, command: Command, bytes: &[u8]) -> Result<String, Status>
+    ensures { Gives string_bytes (TextOf command bytes.now) Status.Memory result }
+{
+    match command {
+        Command::Run => match number_of(alloc, bytes) {
+            Ok(text) => Ok(text),
+            Err(FormFault::Outside) => Err(Status::FirstPathOnly),
+            Err(FormFault::Memory) => Err(Status::Memory),
+        },
+    }
+}

@@ -2,8 +2,8 @@
 use Rattle.std.specs.Prelude.{Contains, Bool, true, false, map, filter, if◌then◌else◌}
 use Rattle.std.proofs.Common.{◌≡◌, ℕ, zero, suc, ◌<◌, List, [], ◌∷◌, length, Option, Some, None, refl, arith, ap}
 use Rattle.lido_base.specs.Plain.{Plain, Void}
-use Rattle.lido_base.specs.Tree.{Tree, children, IsTree}
-use Rattle.lido_base.proofs.TreeLemmas.{AsksBelow, from_children-step, children_behind}
+use Rattle.lido_base.specs.Tree.{Tree, children, AsksBelow, IsTree}
+use Rattle.lido_base.proofs.TreeLemmas.{from_children-step, children_behind}
 use Rattle.lido_syntax.specs.declared.spec.Spec.{Spec}
 use Rattle.lido_syntax.specs.declared.spec.Cons.{Cons}
 use Rattle.lido_syntax.specs.declared.spec.With.{With}

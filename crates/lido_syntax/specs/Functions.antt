@@ -1,12 +1,12 @@
 -- The functions that a name calls: LIDO's operators and functions, PTG's text functions, and those of the patterns.
-use Rattle.std.specs.Prelude.{ℕ, suc, List, [], ◌∷◌, ◌++◌, Option, Some, None, slice_get, unwrap_or, option_map, find, if◌then◌else◌, codes, Bool}
+use Rattle.std.specs.Prelude.{ℕ, suc, List, [], ◌∷◌, ◌++◌, Option, Some, None, slice_get, unwrap_or, option_map, find, if◌then◌else◌, codes}
 use Rattle.std.specs.Str.{bytes_eq}
 use Rattle.lido_base.specs.declared.value.BadKind.{BadKind}
 use Rattle.lido_base.specs.declared.operation.Op.{Op}
 use Rattle.lido_base.specs.declared.operation.Op.TheVariants as op
 use Rattle.lido_base.specs.declared.pattern.Pattern.{Pattern}
-use Rattle.lido_base.specs.Plain.{Plain, Bad, Truth, Void}
-use Rattle.lido_base.specs.Operations.{operate, unless_bad}
+use Rattle.lido_base.specs.Plain.{Plain, Void}
+use Rattle.lido_base.specs.Operations.{operate, unless_bad, chosen, last}
 
 -- what ids and names stand for: the texts by id, and the patterns
 pub record Environment : Type 0 where
@@ -21,19 +21,6 @@ operation_names =
     ∷ (codes "NE", op.Ne) ∷ (codes "LT", op.Lt) ∷ (codes "LE", op.Le) ∷ (codes "GT", op.Gt) ∷ (codes "GE", op.Ge)
     ∷ (codes "IDENTICAL", op.Identical) ∷ (codes "ZERO", op.Zero) ∷ (codes "ONE", op.One) ∷ (codes "ARGTOONE", op.ArgToOne)
     ∷ (codes "PTGNULL", op.Null) ∷ (codes "PTGNull", op.Null) ∷ (codes "PTGNumb", op.Numb) ∷ (codes "PTGAsIs", op.AsIs) ∷ (codes "PTGSeq", op.Seq) ∷ []
-
--- IF: a Bad condition, else the value of the chosen branch alone
-abbrev pub chosen : List Plain → Plain
-chosen (Bad o ∷ more) = Bad o
-chosen (Truth Bool.true ∷ a ∷ more) = a
-chosen (Truth Bool.false ∷ a ∷ b ∷ more) = b
-chosen _ = Void
-
--- the last of the values
-abbrev pub last : List Plain → Plain
-last [] = Void
-last (v ∷ []) = v
-last (v ∷ w ∷ vs) = last (w ∷ vs)
 
 module _ (env : Environment) where
   -- the text of an id

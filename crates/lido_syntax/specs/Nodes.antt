@@ -1,7 +1,7 @@
 -- Rules, symbols and computations at the nodes of a written tree.
-use Rattle.std.specs.Prelude.{◌≡◌, ℕ, zero, suc, Some, slice_get, Contains}
+use Rattle.std.specs.Prelude.{◌≡◌, ℕ, Some, slice_get, Contains}
 use Rattle.lido_base.specs.Plain.{Plain}
-use Rattle.lido_base.specs.Tree.{Tree, Child, rule_at, items_of, ancestors}
+use Rattle.lido_base.specs.Tree.{Tree, Child, rule_at, item_at, ancestors}
 use Rattle.lido_syntax.specs.declared.spec.Spec.{Spec}
 use Rattle.lido_syntax.specs.declared.spec.RuleItem.{RuleItem}
 use Rattle.lido_syntax.specs.declared.spec.Comp.{Comp}
@@ -28,10 +28,9 @@ module _ (spec : Spec) (t : Tree Plain) where
   abbrev pub IsUnder : ℕ → ℕ → Type 0
   IsUnder c n = (m : ℕ) × Contains (ancestors t n) m × HasInForce m (Start c)
 
-  -- node n stands at the place of node p's rule: places count from 1, items from 0
+  -- node n stands at this place, counted from 1, of node p
   abbrev pub IsChild : ℕ → ℕ → ℕ → Type 0
-  IsChild p zero n = ⊥
-  IsChild p (suc k) n = slice_get (items_of t p) k ≡ Some (Child n)
+  IsChild p place n = item_at t p place ≡ Some (Child n)
 
   -- The computation in force for attribute a of node n, with its context node: of a rule's computation the node of the
   -- rule, of a symbol's the node of the symbol.

@@ -1,2 +1,4 @@
 pub mod Writing
 pub mod Expressions
+pub mod ShieldedSums
+pub mod NestedDepths

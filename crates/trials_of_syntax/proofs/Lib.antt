@@ -1,1 +1,3 @@
 pub mod RulesOnly
+pub mod Members
+pub mod Classes

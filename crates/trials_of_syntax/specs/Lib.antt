@@ -2,3 +2,4 @@ pub mod Writing
 pub mod Expressions
 pub mod ShieldedSums
 pub mod NestedDepths
+pub mod Classes

@@ -5,6 +5,8 @@
 
 mod expressions;
 mod remote_access;
+mod symbol_computations;
 
 pub use expressions::values_of_expressions;
 pub use remote_access::{nested_depths, shielded_sums};
+pub use symbol_computations::{class_of_a_class, class_symbol_rule, two_classes_left};

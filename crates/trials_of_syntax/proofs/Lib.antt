@@ -1,3 +1,5 @@
 pub mod RulesOnly
 pub mod Members
 pub mod Classes
+pub mod Tables
+pub mod SumOfItemsLemmas

@@ -3,3 +3,4 @@ pub mod Expressions
 pub mod ShieldedSums
 pub mod NestedDepths
 pub mod Classes
+pub mod SumOfItems

@@ -3,3 +3,4 @@ pub mod Members
 pub mod Classes
 pub mod Tables
 pub mod SumOfItemsLemmas
+pub mod NestedStartLemmas

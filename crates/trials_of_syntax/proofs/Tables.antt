@@ -37,3 +37,7 @@ each_value P (row ∷ rows) all n slot v h = go (nat_eq row.0 n && is_slot row.1
     go : (b : Bool) → (assigned rows n slot ≡ Some v → P v) → option_map (λ (row : Row). row.2) (if b then Some row else find (λ (row : Row). nat_eq row.0 n && is_slot row.1 slot) rows) ≡ Some v → P v
     go true later h = let same : row.2 ≡ v = cc in subst P same all.0
     go false later h = later h
+
+pub none_from : {X : Type 0} (o : Option X) → ¬ IsSome o → o ≡ None
+none_from None h = refl
+none_from (Some x) h = absurd (h refl)

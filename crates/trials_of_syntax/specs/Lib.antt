@@ -4,3 +4,4 @@ pub mod ShieldedSums
 pub mod NestedDepths
 pub mod Classes
 pub mod SumOfItems
+pub mod NestedStart

@@ -1,13 +1,8 @@
--- Assignments of values to the attributes and chain values of a tree's nodes, and the functions that a name calls.
-use Rattle.std.specs.Prelude.{ℕ, suc, List, [], ◌∷◌, ◌++◌, Option, Some, None, slice_get, unwrap_or, option_map, find, if◌then◌else◌, codes, Bool}
-use Rattle.std.specs.Str.{bytes_eq}
-use Rattle.lido_base.specs.declared.value.BadKind.{BadKind}
-use Rattle.lido_base.specs.declared.operation.Op.{Op}
-use Rattle.lido_base.specs.declared.operation.Op.TheVariants as op
-use Rattle.lido_base.specs.declared.pattern.Pattern.{Pattern}
-use Rattle.lido_base.specs.Plain.{Plain, Bad, Truth, Void}
-use Rattle.lido_base.specs.Operations.{operate, unless_bad}
+-- Assignments of values to the attributes of a tree's nodes, and to what chains have in front of nodes and behind them.
+use Rattle.std.specs.Prelude.{ℕ, Option, unwrap_or}
+use Rattle.lido_base.specs.Plain.{Plain, Void}
 
+-- what of a node has a value: an attribute, or a chain's value in front of the node or behind it
 pub data Slot : Type 0 where
   Attribute : ℕ → Slot
   Front : ℕ → Slot
@@ -17,45 +12,6 @@ pub data Slot : Type 0 where
 abbrev pub Assignment : Type 0
 Assignment = ℕ → Slot → Option Plain
 
-abbrev pub operation_names : List (List ℕ × Op)
-operation_names =
-    (codes "ADD", op.Add) ∷ (codes "SUB", op.Sub) ∷ (codes "MUL", op.Mul) ∷ (codes "DIV", op.Div) ∷ (codes "MOD", op.Mod)
-    ∷ (codes "NEG", op.Neg) ∷ (codes "AND", op.And) ∷ (codes "OR", op.Or) ∷ (codes "NOT", op.Not) ∷ (codes "EQ", op.Eq)
-    ∷ (codes "NE", op.Ne) ∷ (codes "LT", op.Lt) ∷ (codes "LE", op.Le) ∷ (codes "GT", op.Gt) ∷ (codes "GE", op.Ge)
-    ∷ (codes "IDENTICAL", op.Identical) ∷ (codes "ZERO", op.Zero) ∷ (codes "ONE", op.One) ∷ (codes "ARGTOONE", op.ArgToOne)
-    ∷ (codes "PTGNULL", op.Null) ∷ (codes "PTGNull", op.Null) ∷ (codes "PTGNumb", op.Numb) ∷ (codes "PTGAsIs", op.AsIs) ∷ (codes "PTGSeq", op.Seq) ∷ []
-
-module _ (patterns : List Pattern) (texts : List (List ℕ)) where
-  abbrev pub text_of : ℕ → List ℕ
-  text_of id = unwrap_or (slice_get texts id) []
-
-  -- a pattern's function has PTG before the pattern's name
-  abbrev pub pattern_names : ℕ → List Pattern → List (List ℕ × Op)
-  pattern_names k [] = []
-  pattern_names k (pattern ∷ more) = (codes "PTG" ++ text_of pattern.name.0, op.Pattern k) ∷ pattern_names (suc k) more
-
-  -- the operation that has this name
-  abbrev pub operation_of : List ℕ → Option Op
-  operation_of name = option_map (λ (o : List ℕ × Op). o.1) (find (λ (o : List ℕ × Op). bytes_eq o.0 name) (operation_names ++ pattern_names 0 patterns))
-
-  abbrev pub chosen : List Plain → Plain
-  chosen (Bad o ∷ more) = Bad o
-  chosen (Truth Bool.true ∷ a ∷ more) = a
-  chosen (Truth Bool.false ∷ a ∷ b ∷ more) = b
-  chosen _ = Void
-
-  abbrev pub last : List Plain → Plain
-  last [] = Void
-  last (v ∷ []) = v
-  last (v ∷ w ∷ vs) = last (w ∷ vs)
-
-  abbrev pub operated : Option Op → (BadKind → Plain) → List Plain → Plain
-  operated None fails vs = Void
-  operated (Some o) fails vs = operate texts patterns fails o vs
-
-  -- what a call of the name gives for the values of its arguments
-  abbrev pub called : ℕ → (BadKind → Plain) → List Plain → Plain
-  called id fails vs =
-      if bytes_eq (text_of id) (codes "IF") then chosen vs
-      else if bytes_eq (text_of id) (codes "ORDER") then unless_bad vs (last vs)
-      else operated (operation_of (text_of id)) fails vs
+-- the value at a node's slot, and Void where none stands
+abbrev pub value_at : Assignment → ℕ → Slot → Plain
+value_at A n slot = unwrap_or (A n slot) Void

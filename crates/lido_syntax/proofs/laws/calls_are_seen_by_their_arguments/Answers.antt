@@ -1,0 +1,5 @@
+use Rattle.lido_syntax.proofs.ExpressionLemmas.{reads-Call, value-Call}
+use Rattle.lido_syntax.proofs.laws.calls_are_seen_by_their_arguments.Goals as goal
+
+pub returns : goal.returns
+returns c = record { reads = reads-Call; value = value-Call }

@@ -1,0 +1,33 @@
+-- Nonterminals, terminals, the root and chains.
+use Rattle.std.specs.Prelude.{◌≡◌, ℕ, ◌⊎◌, map, flat_map, Contains, IsTrue}
+use Rattle.lido_base.specs.declared.value.ValueType.{ValueType}
+use Rattle.lido_base.specs.declared.value.ValueType.TheVariants as type
+use Rattle.lido_base.specs.Tree.{contains}
+use Rattle.lido_syntax.specs.declared.spec.Spec.{Spec}
+use Rattle.lido_syntax.specs.declared.spec.Typed1.{Typed1}
+use Rattle.lido_syntax.specs.Production.{name_of, left_of, right_of}
+
+module _ (spec : Spec) where
+  -- a nonterminal stands on a left side
+  abbrev pub IsNonterminal : ℕ → Type 0
+  IsNonterminal s = IsTrue (contains s (map left_of spec.rules))
+
+  -- some right side has the symbol
+  abbrev pub IsOnRightSide : ℕ → Type 0
+  IsOnRightSide s = IsTrue (contains s (flat_map right_of spec.rules))
+
+  -- the root is the nonterminal that stands on no right side; an accepted specification has one
+  abbrev pub IsRoot : ℕ → Type 0
+  IsRoot s = IsNonterminal s × ¬ IsOnRightSide s
+
+  -- TERM declares the name, with this type
+  abbrev pub IsTerm : ℕ → ValueType → Type 0
+  IsTerm s ty = (x : Typed1) × Contains spec.terms x × (name_of x.name ≡ s) × (x.ty ≡ ty)
+
+  -- a terminal of a right side, with its type: as TERM says, else int
+  abbrev pub IsTerminal : ℕ → ValueType → Type 0
+  IsTerminal s ty = IsOnRightSide s × ¬ IsNonterminal s × (IsTerm s ty ⊎ (((other : ValueType) → ¬ IsTerm s other) × (ty ≡ type.Int)))
+
+  -- CHAIN declares the name
+  abbrev pub IsChain : ℕ → Type 0
+  IsChain c = IsTrue (contains c (map (λ x. name_of x.name) spec.chains))

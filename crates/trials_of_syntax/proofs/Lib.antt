@@ -1,0 +1,6 @@
+pub mod RulesOnly
+pub mod Members
+pub mod Classes
+pub mod Tables
+pub mod SumOfItemsLemmas
+pub mod NestedStartLemmas

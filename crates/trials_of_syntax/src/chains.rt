@@ -1,0 +1,26 @@
+//! A chain through a list, with a start inside.
+ghost use Rattle.std.specs.Prelude.{◌≡◌, ℕ, ℤ, pos, [], ◌∷◌, ◌++◌, codes};
+ghost use Rattle.lido_base.specs.Plain.{Plain, Text, Void};
+ghost use Rattle.lido_syntax.specs.Chains.{IsThreaded, IsTail};
+ghost use Rattle.lido_syntax.specs.Constituents.{constituents_at};
+ghost use Rattle.lido_syntax.specs.Sets.{Sets};
+ghost use Rattle.lido_syntax.specs.Value.{value};
+ghost use Rattle.trials_of_syntax.specs.NestedStart.{env, spec, tree, counted, leaked, lines, of_line, no, item_rule, line, all_lines, group_lines};
+
+/// A start counts for the nodes below it alone: the lines have the numbers 1, 10, 11 and 2, and the output is their lines.
+pub fn nested_start()
+    ensures threaded { (sets : Sets spec) → IsThreaded spec sets env tree counted no }
+    ensures no_leak { (sets : Sets spec) → ¬ IsThreaded spec sets env tree leaked no }
+    ensures first { (sets : Sets spec)
+        → value spec sets env tree counted item_rule 3 1 (λ c. Void) line.value ≡ of_line (codes "1 a") }
+    ensures inner { (sets : Sets spec)
+        → value spec sets env tree counted item_rule 3 4 (λ c. Void) line.value ≡ of_line (codes "10 x") }
+    ensures inner_next { (sets : Sets spec)
+        → value spec sets env tree counted item_rule 3 5 (λ c. Void) line.value ≡ of_line (codes "11 y") }
+    ensures behind { (sets : Sets spec)
+        → value spec sets env tree counted item_rule 3 6 (λ c. Void) line.value ≡ of_line (codes "2 b") }
+    ensures group { (sets : Sets spec) → constituents_at spec sets env tree lines group_lines 3 group_lines.with
+        ≡ Text (codes "10 x" ++ 10 ∷ codes "11 y" ++ 10 ∷ []) }
+    ensures output { (sets : Sets spec) → constituents_at spec sets env tree lines all_lines 0 all_lines.with
+        ≡ Text (codes "1 a" ++ 10 ∷ codes "10 x" ++ 10 ∷ codes "11 y" ++ 10 ∷ codes "2 b" ++ 10 ∷ []) }
+{}

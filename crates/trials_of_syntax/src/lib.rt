@@ -1,0 +1,16 @@
+//! The definitions of a specification's meaning, tried on small specifications whose meaning is known.
+//!
+//! Each function does nothing; what is proved is its contract: what the definitions give, without the product's code.
+#![tactic(auto)]
+
+mod chains;
+mod expressions;
+mod remote_access;
+mod symbol_computations;
+mod whole;
+
+pub use chains::nested_start;
+pub use expressions::values_of_expressions;
+pub use remote_access::{nested_depths, shielded_sums};
+pub use symbol_computations::{class_of_a_class, class_symbol_rule, two_classes_left};
+pub use whole::{attribute_of_an_item, complete_specification, fitting_trees, sum_of_items};

@@ -1,4 +1,4 @@
--- A plan is sound: what the visit sequences may do, clause by clause.
+-- A sound plan: what visit sequences may do, in numbered clauses, and the first fault. After Kastens' visit sequences (1980).
 use Rattle.std.specs.Prelude.{◌≡◌, ℕ, zero, suc, ◌+◌, ◌<◌, ◌≤◌, ◌⊎◌, List, [], ◌∷◌, ◌++◌, map, length, take, Bool, true, false, IsTrue, Option, Some, None, slice_get, Contains, All, AllPairs, count_by, nat_eq, flat_map, is_some, ◌↔◌}
 use Rattle.std.specs.List.{AllZip}
 use Rattle.lido_base.specs.declared.kinds.Kind.{Kind}
@@ -30,26 +30,33 @@ module _ (symbols : List FlatSymbol) (visits : List (List VisitClass)) (r : Flat
   IsClassAt k zero class = ⊥
   IsClassAt k (suc v) class = (s : SymId) × (row : List VisitClass) × (symbol_at r k ≡ Some s) × (slice_get visits s.0 ≡ Some row) × (slice_get row v ≡ Some class)
 
+  -- the visit of the left side in which the place stands
   abbrev pub segment_at : ℕ → ℕ
   segment_at place = 1 + count_by is_leave (take place seq)
 
+  -- an item before the place evaluates it
   abbrev pub IsEvaluated : ℕ → Occ → Type 0
   IsEvaluated place o = Contains (take place seq) (Eval o)
 
+  -- how many visits of the child stand before the place
   abbrev pub visits_made : ℕ → ℕ → ℕ
   visits_made place child = count_by (is_visit_of child) (take place seq)
 
-  -- evaluated, or given by a visit of the child that was made, or by the left side's visits up to this one
+  -- it has its value at the place: evaluated, or given by a visit of the child that was made, or inherited by the left side in a
+  -- visit up to this one
   abbrev pub IsAtHand : ℕ → Occ → Type 0
   IsAtHand place o =
       IsEvaluated place o
       ⊎ ((0 < o.occ) × (v : ℕ) × (class : VisitClass) × (v ≤ visits_made place o.occ) × IsClassAt o.occ v class × Contains class.synthesized o.attr)
       ⊎ ((o.occ ≡ 0) × (v : ℕ) × (class : VisitClass) × (v ≤ segment_at place) × IsClassAt 0 v class × Contains class.inherited o.attr)
 
+  -- all these attributes of the occurrence are evaluated before the place
   abbrev pub IsEvaluatedAll : ℕ → ℕ → List AttrId → Type 0
   IsEvaluatedAll place k attrs = All (λ a. IsEvaluated place (record { occ = k; attr = a })) attrs
 
-  -- the clause allows the item to stand at the place
+  -- The clause allows the item to stand at the place. Clause 0: its numbers are in range. 1: it evaluates a goal of the rule that
+  -- wasn't evaluated before. 2: it is the child's next visit. 3: what the child inherits in this visit is evaluated. 4: what the
+  -- evaluation depends on is at hand. 5: it ends its own visit, whose synthesized attributes are evaluated.
   abbrev pub Allows : ℕ → ℕ → PlanItem → Type 0
   Allows zero place (Eval o) = IsTrue (is_some (attribute_of symbols r o))
   Allows zero place (Visit k v) = (0 < k) × (class : VisitClass) × IsClassAt k v class
@@ -61,7 +68,8 @@ module _ (symbols : List FlatSymbol) (visits : List (List VisitClass)) (r : Flat
   Allows (suc (suc (suc (suc (suc zero))))) place (Leave v) = (v ≡ segment_at place) × ((class : VisitClass) → IsClassAt 0 v class → IsEvaluatedAll place 0 class.synthesized)
   Allows _ _ _ = Unit {0}
 
-  -- the clause allows the sequence to end where it does
+  -- The clause allows the sequence to end where it does. Clause 1: all goals are evaluated. 2: all visits of the children were
+  -- made. 5: the last item ends the last visit.
   abbrev pub AllowsEnd : ℕ → Type 0
   AllowsEnd (suc zero) = All (λ c. IsEvaluated (length seq) c.goal) r.comps
   AllowsEnd (suc (suc zero)) = (k : ℕ) (s : SymId) (row : List VisitClass) → 0 < k → symbol_at r k ≡ Some s → IsTrue (is_nonterminal symbols s) → slice_get visits s.0 ≡ Some row
@@ -69,6 +77,7 @@ module _ (symbols : List FlatSymbol) (visits : List (List VisitClass)) (r : Flat
   AllowsEnd (suc (suc (suc (suc (suc zero))))) = (before : List PlanItem) × (row : List VisitClass) × (slice_get visits r.left.0 ≡ Some row) × (seq ≡ before ++ Leave (length row) ∷ [])
   AllowsEnd _ = Unit {0}
 
+  -- the clause holds of what stands at the place: an item, or the end
   abbrev pub HoldsAt : ℕ → Option PlanItem → ℕ → Type 0
   HoldsAt place (Some item) clause = Allows clause place item
   HoldsAt place None clause = AllowsEnd clause
@@ -80,6 +89,7 @@ module _ (symbols : List FlatSymbol) (visits : List (List VisitClass)) (r : Flat
     pub first_clause : (c : ℕ) → c < clause → HoldsAt place (slice_get seq place) c
     pub first_place : (p c : ℕ) → p < place → HoldsAt p (slice_get seq p) c
 
+  -- all clauses hold at each place and at the end
   abbrev pub IsSoundSequence : Type 0
   IsSoundSequence = (place clause : ℕ) → place ≤ length seq → HoldsAt place (slice_get seq place) clause
 
@@ -99,13 +109,16 @@ module _ (symbols : List FlatSymbol) (rules : List FlatRule) (visits : List (Lis
     pub attributes : (kind : Kind) (a : AttrId) → Contains (of_kind kind row) a ↔ IsAttribute x kind a
     pub once : (kind : Kind) → AllPairs (λ a b. a ≡ b → ⊥) (of_kind kind row)
 
+  -- each symbol has its row of visits, and each rule has a sequence
   abbrev pub HasRows : Type 0
   HasRows = AllZip IsRow symbols visits × (length seqs ≡ length rules)
 
+  -- the rows of visits are right, and each rule's sequence is sound for them
   abbrev pub IsSound : Type 0
   IsSound = HasRows × AllZip (IsSoundSequence symbols visits) rules seqs
 
-  -- the first fault: of the rows, else at the least rule, then the least place, then the least clause
+  -- The first fault, by rule, place and clause: one of the rows or of the number of sequences is rule 0, place 0, clause 0;
+  -- else it is at the least rule, then the least place, then the least clause.
   pub data IsUnsound : ℕ → ℕ → ℕ → Type 0 where
     of_rows : ¬ HasRows → IsUnsound 0 0 0
     of_rule : {i place clause : ℕ} (r : FlatRule) (seq : List PlanItem) → HasRows → slice_get rules i ≡ Some r → slice_get seqs i ≡ Some seq → IsFault symbols visits r seq place clause

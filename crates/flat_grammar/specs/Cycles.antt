@@ -1,6 +1,6 @@
 -- The extended dependencies of a rule and their cycles. After Kastens 1980; the edges between all classes of a symbol and the
 -- labels are our own.
-use Rattle.std.specs.Prelude.{◌≡◌, ℕ, ◌<◌, ◌≤◌, ◌⊎◌, List, [], ◌∷◌, take, Some, slice_get, Contains, All, AllPairs}
+use Rattle.std.specs.Prelude.{◌≡◌, ℕ, ◌<◌, ◌≤◌, ◌⊎◌, List, [], ◌∷◌, take, Some, slice_get, All, AllPairs}
 use Rattle.lido_base.specs.declared.ids.SymId.{SymId}
 use Rattle.lido_base.specs.declared.ids.AttrId.{AttrId}
 use Rattle.flat_grammar.specs.declared.flat.Occ.{Occ}

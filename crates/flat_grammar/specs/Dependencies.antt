@@ -29,6 +29,13 @@ module _ (rules : List FlatRule) where
     pub data IDS : SymId → AttrId → AttrId → Type 0 where
       joined : {r : FlatRule} {u v : Occ} {x : SymId} → Contains rules r → Joins r u v → u.occ ≡ v.occ → symbol_at r u.occ ≡ Some x → IDS x u.attr v.attr
 
+-- two relations that feed each other as those do, the one on the attribute occurrences of a rule, the other on the attributes of a symbol
+pub record IsClosed (rules : List FlatRule) (P : FlatRule → Occ → Occ → Type 0) (S : SymId → AttrId → AttrId → Type 0) : Type 0 where
+  pub direct_edges : (r : FlatRule) (u v : Occ) → Contains rules r → DP r u v → P r u v
+  pub induced_edges : (r : FlatRule) (u v : Occ) (x : SymId) → Contains rules r → u.occ ≡ v.occ → symbol_at r u.occ ≡ Some x → S x u.attr v.attr → P r u v
+  pub transitive : (r : FlatRule) (u v w : Occ) → Contains rules r → P r u v → P r v w → P r u w
+  pub projected : (r : FlatRule) (u v : Occ) (x : SymId) → Contains rules r → P r u v → u.occ ≡ v.occ → symbol_at r u.occ ≡ Some x → S x u.attr v.attr
+
 -- The rows of bits are the induced dependencies: bit b of row a of symbol x says that a comes before b.
 abbrev pub AreInducedRows : List FlatSymbol → List FlatRule → List (List ℕ) → Type 0
 AreInducedRows symbols rules rows = (map (λ (x : FlatSymbol). length x.attrs) symbols ≡ map (λ (row : List ℕ). length row) rows)

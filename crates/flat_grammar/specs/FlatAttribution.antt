@@ -2,8 +2,6 @@
 use Rattle.std.specs.Prelude.{◌≡◌, ℕ, ◌<◌, ◌↔◌, Bool, true, List, [], ◌∷◌, length, Option, Some, None, IsSome, slice_get, unwrap_or, Contains}
 use Rattle.lido_base.specs.declared.value.BadKind.{BadKind}
 use Rattle.lido_base.specs.declared.value.Origin.{Origin}
-use Rattle.lido_base.specs.declared.value.Value.{Value}
-use Rattle.lido_base.specs.declared.value.Value.TheVariants as value
 use Rattle.lido_base.specs.declared.pattern.Pattern.{Pattern}
 use Rattle.lido_base.specs.Plain.{Plain, Truth, Void, Bad, plain}
 use Rattle.lido_base.specs.Operations.{operate, unless_bad, kept}

@@ -64,4 +64,4 @@ module _ (symbols : List FlatSymbol) (rules : List FlatRule) (x : SymId) where
 abbrev pub AreAllVisits : List FlatSymbol → List FlatRule → List (List VisitClass) → Type 0
 AreAllVisits symbols rules visits = (length visits ≡ length symbols)
     × ((x : SymId) (row : List VisitClass) → slice_get visits x.0 ≡ Some row
-        → (IsTrue (is_nonterminal symbols x) → AreVisits symbols rules x row) × (IsFalse (is_nonterminal symbols x) → row ≡ []))
+    → (IsTrue (is_nonterminal symbols x) → AreVisits symbols rules x row) × (IsFalse (is_nonterminal symbols x) → row ≡ []))

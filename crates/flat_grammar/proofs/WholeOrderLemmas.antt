@@ -2,8 +2,8 @@
 use Rattle.std.specs.Prelude.{Contains, slice_get, flat_map, option_and_then, filter_map}
 use Rattle.std.proofs.Common.{◌≡◌, ℕ, zero, suc, ◌-◌, ◌<◌, List, [], ◌∷◌, ◌++◌, length, Option, Some, None, refl, ap, subst}
 use Rattle.std.proofs.lemmas.Option.{none-some}
-use Rattle.lido_base.specs.Tree.{Tree, Item, Child, Leaf, child_number, children, items_of, IsTree}
-use Rattle.lido_base.proofs.TreeLemmas.{AsksBelow, from_children-step, children_behind}
+use Rattle.lido_base.specs.Tree.{Tree, Item, Child, Leaf, child_number, children, items_of, AsksBelow, IsTree}
+use Rattle.lido_base.proofs.TreeLemmas.{from_children-step, children_behind}
 use Rattle.flat_grammar.specs.declared.plan.PlanItem.{PlanItem}
 use Rattle.flat_grammar.specs.declared.plan.PlanItem.TheVariants.{Eval, Visit, Leave}
 use Rattle.flat_grammar.specs.WholeOrder.{Instance, segment, child_at, sequence_at, visit_order, item_order, order}

@@ -1,10 +1,10 @@
 -- The attributions of a flat tree: the solutions of all its attribute equations.
-use Rattle.std.specs.Prelude.{◌≡◌, ℕ, ◌<◌, ◌↔◌, Bool, true, List, [], ◌∷◌, length, Option, Some, None, IsSome, slice_get, unwrap_or, Contains}
+use Rattle.std.specs.Prelude.{◌≡◌, ℕ, ◌<◌, ◌↔◌, true, List, [], ◌∷◌, length, Option, Some, None, IsSome, slice_get, unwrap_or, Contains}
 use Rattle.lido_base.specs.declared.value.BadKind.{BadKind}
 use Rattle.lido_base.specs.declared.value.Origin.{Origin}
 use Rattle.lido_base.specs.declared.pattern.Pattern.{Pattern}
-use Rattle.lido_base.specs.Plain.{Plain, Truth, Void, Bad, plain}
-use Rattle.lido_base.specs.Operations.{operate, unless_bad, kept}
+use Rattle.lido_base.specs.Plain.{Plain, Void, Bad, plain}
+use Rattle.lido_base.specs.Operations.{operate, unless_bad, kept, chosen, last}
 use Rattle.lido_base.specs.Origins.{IsAtMost}
 use Rattle.lido_base.specs.Tree.{Tree, Item, Leaf, item_at}
 use Rattle.flat_grammar.specs.declared.flat.FlatRule.{FlatRule}
@@ -17,17 +17,6 @@ use Rattle.flat_grammar.specs.WellFormed.{attribute_of}
 use Rattle.flat_grammar.specs.WholeOrder.{node_at}
 
 module _ (texts : List (List ℕ)) (patterns : List Pattern) where
-  abbrev pub last : List Plain → Plain
-  last [] = Void
-  last (v ∷ []) = v
-  last (v ∷ w ∷ vs) = last (w ∷ vs)
-
-  abbrev pub chosen : List Plain → Plain
-  chosen (Bad o ∷ more) = Bad o
-  chosen (Truth Bool.true ∷ a ∷ more) = a
-  chosen (Truth Bool.false ∷ a ∷ b ∷ more) = b
-  chosen _ = Void
-
   -- the value of the terminal that stands there
   abbrev pub leaf_or : Option (Item Plain) → Plain
   leaf_or (Some (Leaf v)) = v

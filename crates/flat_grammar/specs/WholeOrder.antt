@@ -2,7 +2,7 @@
 use Rattle.std.specs.Prelude.{ℕ, zero, suc, ◌-◌, List, [], ◌∷◌, flat_map, length, Option, Some, None, option_and_then, slice_get, unwrap_or}
 use Rattle.std.specs.List.{range_with_len}
 use Rattle.lido_base.specs.declared.ids.SymId.{SymId}
-use Rattle.lido_base.specs.Tree.{Tree, child_number, rule_at, items_of, from_children}
+use Rattle.lido_base.specs.Tree.{Tree, child_number, rule_at, item_at, from_children}
 use Rattle.flat_grammar.specs.declared.plan.VisitClass.{VisitClass}
 use Rattle.flat_grammar.specs.declared.plan.PlanItem.{PlanItem}
 use Rattle.flat_grammar.specs.declared.plan.PlanItem.TheVariants.{Eval, Visit, Leave}
@@ -22,8 +22,7 @@ segment (suc v) (item ∷ more) = segment (suc v) more
 module _ {V : Type 0} (t : Tree V) where
   -- the child at an occurrence of node n's rule, if a node stands there
   abbrev pub child_at : ℕ → ℕ → Option ℕ
-  child_at n zero = None
-  child_at n (suc k) = option_and_then child_number (slice_get (items_of t n) k)
+  child_at n k = option_and_then child_number (item_at t n k)
 
   -- the node at an occurrence of node n's rule; where a terminal stands, which has no attributes, n itself
   abbrev pub node_at : ℕ → ℕ → ℕ

@@ -1,6 +1,5 @@
 //! Laws of the definitions: functions that do nothing, whose contracts are the laws.
 ghost use Rattle.std.specs.Prelude.{◌≡◌, ◌<◌, ◌≤◌, ◌-◌, ◌⊎◌, ℕ, Bool, IsTrue, List, length, flat_map, slice_get, Contains};
-ghost use Rattle.lido_base.specs.Plain.{Plain};
 ghost use Rattle.lido_base.specs.Tree.{Tree, IsTree};
 ghost use Rattle.lido_base.specs.declared.ids.SymId.{SymId as Symbol};
 ghost use Rattle.lido_base.specs.declared.ids.AttrId.{AttrId as Attribute};
@@ -88,7 +87,7 @@ pub fn sound_plan_has_no_fault()
 {}
 
 /// What a visit of a node evaluates: along its segment, each evaluation itself and each visit of a child what that evaluates.
-pub fn order_goes_along_the_segment()
-    ensures { (t : Tree Plain) (seqs : List (List PlanItem)) → IsTree t → (n v : ℕ) → n < length t
+pub fn order_goes_along_the_segment<V>()
+    ensures { (t : Tree V) (seqs : List (List PlanItem)) → IsTree t → (n v : ℕ) → n < length t
         → order t seqs n v ≡ flat_map (item_order t seqs (order t seqs) n) (segment (v - 1) (sequence_at t seqs n)) }
 {}

@@ -1,0 +1,2 @@
+pub mod ListOfItems
+pub mod ItemTrees

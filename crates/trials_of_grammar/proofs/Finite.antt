@@ -5,11 +5,12 @@ use Rattle.std.proofs.Common.{◌≡◌, ℕ, List, [], ◌∷◌, Some, refl, a
 use Rattle.std.proofs.lemmas.List.Elements.{All-cons, All-nil, All-contains}
 use Rattle.std.proofs.lemmas.List.Kept.{AllPairs-cons}
 use Rattle.lido_base.specs.declared.ids.StrId.{StrId}
+use Rattle.lido_base.specs.declared.kinds.Kind.TheVariants.{Synthesized, Inherited}
 use Rattle.lido_base.specs.Tree.{Tree, rule_at}
 use Rattle.flat_grammar.specs.declared.flat.Occ.{Occ}
 use Rattle.flat_grammar.specs.declared.flat.FlatRule.{FlatRule}
 use Rattle.flat_grammar.specs.Rules.{HasRule}
-use Rattle.flat_grammar.specs.WellFormed.{is_same_occ}
+use Rattle.flat_grammar.specs.WellFormed.{is_same_occ, is_synthesized}
 use Rattle.flat_grammar.proofs.Lists.{held}
 
 pub all-of : {X : Type 0} (P : X → Type 0) (xs : List X) → AllByRecursion P xs → All P xs
@@ -40,6 +41,9 @@ numbers-apart m n h e = never (sym h ∙ eq-eqb m n e)
 
 pub names-apart : (a b : StrId) → nat_eq a.0 b.0 ≡ false → a ≡ b → ⊥
 names-apart a b h e = numbers-apart a.0 b.0 h (ap (λ (s : StrId). s.0) e)
+
+pub kinds-apart : Synthesized ≡ Inherited → ⊥
+kinds-apart e = never (sym (ap is_synthesized e))
 
 pub occurrences-apart : (a b : Occ) → is_same_occ a b ≡ false → a ≡ b → ⊥
 occurrences-apart a b h e = never (sym h ∙ (ap (λ o. is_same_occ a o) (sym e) ∙ itself))

@@ -1,5 +1,9 @@
 pub mod Finite
 pub mod TestedTrees
 pub mod TestedGrammars
+pub mod TestedPlans
 pub mod ListOfItems
 pub mod ItemTrees
+pub mod TestedDependencies
+pub mod LateInheritedPlan
+pub mod CrossedUses

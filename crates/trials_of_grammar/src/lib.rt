@@ -3,4 +3,6 @@
 //! Nothing stands on this crate. Its functions do nothing; each contract is a trial, and its values stand in `specs/`.
 #![tactic(auto)]
 
+pub mod crossed_uses;
+pub mod late_inherited;
 pub mod list_of_items;

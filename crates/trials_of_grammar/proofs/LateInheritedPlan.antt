@@ -94,7 +94,7 @@ rows = (
   ),
 )
 
-S-ends : (clause : ℕ) → AllowsEnd symbols visits S_rule clause S_sequence
+pub S-ends : (clause : ℕ) → AllowsEnd symbols visits S_rule clause S_sequence
 S-ends zero = tt
 S-ends (suc zero) = all-of (IsEvaluated S_sequence) (goals_of S_rule) (evaluated-holds S_sequence A_i refl, (evaluated-holds S_sequence S_v refl, (evaluated-holds S_sequence S_out refl, tt)))
 S-ends (suc (suc zero)) = children
@@ -109,7 +109,7 @@ S-ends (suc (suc (suc (suc zero)))) = tt
 S-ends (suc (suc (suc (suc (suc zero))))) = (Eval A_i ∷ Visit 2 1 ∷ Eval S_v ∷ Eval S_out ∷ Visit 1 1 ∷ [], visits_of_S, refl, refl)
 S-ends (suc (suc (suc (suc (suc (suc clause)))))) = tt
 
-A-ends : (clause : ℕ) → AllowsEnd symbols visits A_rule clause A_sequence
+pub A-ends : (clause : ℕ) → AllowsEnd symbols visits A_rule clause A_sequence
 A-ends zero = tt
 A-ends (suc zero) = all-of (IsEvaluated A_sequence) (goals_of A_rule) tt
 A-ends (suc (suc zero)) = children
@@ -122,7 +122,7 @@ A-ends (suc (suc (suc (suc zero)))) = tt
 A-ends (suc (suc (suc (suc (suc zero))))) = ([], visits_of_A, refl, refl)
 A-ends (suc (suc (suc (suc (suc (suc clause)))))) = tt
 
-B-ends : (clause : ℕ) → AllowsEnd symbols visits B_rule clause B_sequence
+pub B-ends : (clause : ℕ) → AllowsEnd symbols visits B_rule clause B_sequence
 B-ends zero = tt
 B-ends (suc zero) = all-of (IsEvaluated B_sequence) (goals_of B_rule) (evaluated-holds B_sequence (occurrence 0 0) refl, tt)
 B-ends (suc (suc zero)) = children

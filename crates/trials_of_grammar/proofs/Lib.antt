@@ -7,3 +7,6 @@ pub mod ItemTrees
 pub mod TestedDependencies
 pub mod LateInheritedPlan
 pub mod CrossedUses
+pub mod LateInheritedVisits
+pub mod LateInheritedConstruction
+pub mod PlainGrammars

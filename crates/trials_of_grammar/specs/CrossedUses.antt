@@ -4,7 +4,7 @@
 --   RULE rX: X ::= 'x' COMPUTE X.s = 1; END;
 --
 --   circular in rS: X[1].i partition X[1].s direct X[2].i partition X[2].s direct X[1].i
-use Rattle.std.specs.Prelude.{pos, List, [], ◌∷◌, None, true}
+use Rattle.std.specs.Prelude.{pos, List, [], ◌∷◌, None, true, false}
 use Rattle.lido_base.specs.declared.kinds.Kind.TheVariants.{Synthesized, Inherited}
 use Rattle.lido_base.specs.declared.value.Value.TheVariants as value
 use Rattle.lido_base.specs.declared.value.ValueType.TheVariants as type
@@ -15,6 +15,7 @@ use Rattle.flat_grammar.specs.declared.flat.FlatAttr.{FlatAttr}
 use Rattle.flat_grammar.specs.declared.flat.FlatRule.{FlatRule}
 use Rattle.flat_grammar.specs.declared.flat.FlatComp.{FlatComp}
 use Rattle.flat_grammar.specs.declared.flat.FlatExpr.{Value, Read}
+use Rattle.flat_grammar.specs.declared.flat.Shape.{Shape}
 use Rattle.flat_grammar.specs.declared.plan.CycleStep.{CycleStep}
 use Rattle.flat_grammar.specs.declared.plan.Label.{Label}
 use Rattle.flat_grammar.specs.declared.plan.Label.TheVariants.{Direct, Induced, Partition}
@@ -69,6 +70,12 @@ X_rule = record { name = record { 0 = 11 }; left = symbol 1; right = []; comps =
 
 abbrev pub rules : List FlatRule
 rules = S_rule ∷ X_rule ∷ []
+
+abbrev pub shapes : List Shape
+shapes =
+    record { rule = record { 0 = 0 }; list = false; right = symbol 1 ∷ symbol 1 ∷ [] }
+    ∷ record { rule = record { 0 = 1 }; list = false; right = [] }
+    ∷ []
 
 abbrev pub step : Occ → Label → CycleStep
 step u label = record { from = u; label = label }

@@ -12,7 +12,7 @@
 --   rule rB: eval B.v; leave 1
 --
 --   (rS (rA) (rB))
-use Rattle.std.specs.Prelude.{ℕ, pos, List, [], ◌∷◌, Some, None, true}
+use Rattle.std.specs.Prelude.{ℕ, pos, List, [], ◌∷◌, Some, None, true, false}
 use Rattle.lido_base.specs.declared.ids.AttrId.{AttrId}
 use Rattle.lido_base.specs.declared.kinds.Kind.TheVariants.{Synthesized, Inherited}
 use Rattle.lido_base.specs.declared.value.Value.TheVariants as value
@@ -26,6 +26,7 @@ use Rattle.flat_grammar.specs.declared.flat.FlatAttr.{FlatAttr}
 use Rattle.flat_grammar.specs.declared.flat.FlatRule.{FlatRule}
 use Rattle.flat_grammar.specs.declared.flat.FlatComp.{FlatComp}
 use Rattle.flat_grammar.specs.declared.flat.FlatExpr.{Value, Read}
+use Rattle.flat_grammar.specs.declared.flat.Shape.{Shape}
 use Rattle.flat_grammar.specs.declared.plan.PlanItem.{PlanItem}
 use Rattle.flat_grammar.specs.declared.plan.PlanItem.TheVariants.{Eval, Visit, Leave}
 use Rattle.flat_grammar.specs.declared.plan.VisitClass.{VisitClass}
@@ -88,6 +89,13 @@ B_rule = record { name = record { 0 = 12 }; left = symbol 2; right = []; comps =
 
 abbrev pub rules : List FlatRule
 rules = S_rule ∷ A_rule ∷ B_rule ∷ []
+
+abbrev pub shapes : List Shape
+shapes =
+    record { rule = record { 0 = 0 }; list = false; right = symbol 1 ∷ symbol 2 ∷ [] }
+    ∷ record { rule = record { 0 = 1 }; list = false; right = [] }
+    ∷ record { rule = record { 0 = 2 }; list = false; right = [] }
+    ∷ []
 
 abbrev pub visits_of_S : List VisitClass
 visits_of_S = record { inherited = []; synthesized = attribute 0 ∷ attribute 1 ∷ [] } ∷ []

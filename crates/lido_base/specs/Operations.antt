@@ -68,6 +68,7 @@ abbrev pub argument : List Plain → ℕ → Plain
 argument args zero = Void
 argument args (suc k) = unwrap_or (slice_get args k) Void
 
+-- The value is a text without a byte.
 abbrev pub is_empty_text : Plain → Bool
 is_empty_text (Text []) = true
 is_empty_text _ = false
@@ -77,6 +78,7 @@ abbrev pub is_filled : List Plain → Part → Bool
 is_filled args part = elim part.piece [ Fixed s ↦ true | Arg k ↦ not (is_empty_text (argument args k)) ]
 
 module _ (texts : List (List ℕ)) where
+  -- What a piece of a pattern prints: its own text, or the argument of its number.
   abbrev pub piece_bytes : List Plain → PartPiece → List ℕ
   piece_bytes args (Fixed s) = unwrap_or (slice_get texts s.0) []
   piece_bytes args (Arg k) = printed (argument args k)

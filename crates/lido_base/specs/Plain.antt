@@ -30,6 +30,7 @@ module _ (texts : List (List ℕ)) where
   plain value.Void = Void
   plain (value.Bad o) = Bad o
 
+  -- The item with its terminal made plain.
   abbrev pub plain_item : Item Value → Item Plain
   plain_item (Child c) = Child c
   plain_item (Leaf v) = Leaf (plain v)

@@ -6,11 +6,13 @@ use Rattle.lido_base.specs.declared.value.Origin.{Origin}
 use Rattle.lido_base.specs.declared.value.Value.{Value}
 use Rattle.lido_base.specs.declared.value.Value.TheVariants.{Int, Bool, Str, Text, Void, Bad}
 
+-- The numbers of a descriptor are those of their types: 16, 32 and 32 bits.
 pub record IsDescInRange (d : Desc) : Type 0 where
   pub room : d.room < 2 ^ 16
   pub node : d.node < 2 ^ 32
   pub len : d.len < 2 ^ 32
 
+-- The numbers of an origin are those of their types: 32 and 16 bits.
 pub record IsOriginInRange (o : Origin) : Type 0 where
   pub node : o.node < 2 ^ 32
   pub comp : o.comp < 2 ^ 16

@@ -17,9 +17,11 @@ pub record Node (V : Type 0) : Type 0 where
   pub place : ℕ
   pub items : List (Item V)
 
+-- A tree: node n is entry n of the table.
 abbrev pub Tree : Type 0 → Type 0
 Tree V = List (Node V)
 
+-- The node that the item is, if it is no terminal.
 abbrev pub child_number : {V : Type 0} → Item V → Option ℕ
 child_number (Child c) = Some c
 child_number (Leaf v) = None
@@ -44,15 +46,19 @@ and_above above None = []
 and_above above (Some p) = p ∷ above p
 
 module _ {V : Type 0} (t : Tree V) where
+  -- The number of a node's rule.
   abbrev pub rule_at : ℕ → Option ℕ
   rule_at n = option_map (λ (node : Node V). node.rule) (slice_get t n)
 
+  -- The parent of a node, if it has one.
   abbrev pub parent_of : ℕ → Option ℕ
   parent_of n = option_and_then (λ (node : Node V). node.parent) (slice_get t n)
 
+  -- The place of a node among its parent's items, counted from 1, and 0 at the root.
   abbrev pub place_of : ℕ → ℕ
   place_of n = elim (slice_get t n) [ None ↦ 0 | Some node ↦ node.place ]
 
+  -- What stands at a node's places, in order.
   abbrev pub items_of : ℕ → List (Item V)
   items_of n = elim (slice_get t n) [ None ↦ [] | Some node ↦ node.items ]
 

@@ -1,4 +1,4 @@
-use Rattle.std.proofs.Common.{arith, ◌≤◌, ap, subst}
+use Rattle.std.proofs.Common.{arith, ◌≤◌}
 use Rattle.std.proofs.lemmas.List.{length-take}
 use Rattle.lido_base.proofs.Pieces.{taken_more}
 use Rattle.lido_base.proofs.whole.read_all.Goals as goal

@@ -2,7 +2,7 @@
 --   ATTR n: int;
 --   RULE rTop: Top LISTOF Item COMPUTE PTGOut(PTGNumb(CONSTITUENTS Item.n WITH (int, ADD, IDENTICAL, ZERO))); END;
 --   RULE rItem: Item ::= Num COMPUTE Item.n = Num; END;
-use Rattle.std.specs.Prelude.{ℕ, ℤ, pos, [], ◌∷◌}
+use Rattle.std.specs.Prelude.{ℕ, pos, [], ◌∷◌}
 use Rattle.lido_base.specs.declared.value.ValueType.TheVariants as type
 use Rattle.lido_base.specs.Plain.{Plain, Int}
 use Rattle.lido_base.specs.Tree.{Tree, Child, Leaf}

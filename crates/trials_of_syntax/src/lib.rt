@@ -9,8 +9,13 @@ mod remote_access;
 mod symbol_computations;
 mod whole;
 
-pub use chains::nested_start;
+pub use chains::{nested_start, tails};
 pub use expressions::values_of_expressions;
 pub use remote_access::{nested_depths, shielded_sums};
-pub use symbol_computations::{class_of_a_class, class_symbol_rule, two_classes_left};
+pub use symbol_computations::{
+    attribute_of_a_class, class_of_a_class, class_symbol_rule, two_classes_left,
+};
 pub use whole::{attribute_of_an_item, complete_specification, fitting_trees, sum_of_items};
+
+#[cfg(test)]
+mod tests;

@@ -1,4 +1,4 @@
-use Rattle.std.specs.Prelude.{◌≡◌, ℕ, true, false, [], ◌∷◌, refl}
+use Rattle.std.specs.Prelude.{◌≡◌, ℕ, true, false, refl}
 use Rattle.lido_base.specs.Operations.{operate}
 use Rattle.lido_base.specs.Reach.{source, edge}
 use Rattle.lido_base.specs.Tree.{from_children}

@@ -4,15 +4,19 @@
 
 mod contents;
 mod graphs;
+#[cfg(test)]
+mod names;
 mod operations;
 mod systems;
+#[cfg(test)]
+mod tests;
 mod trees;
 
 pub use contents::Sample;
 pub use graphs::{the_least_path, what_reaches_a_source};
 pub use operations::{
-    arithmetic_at_its_edges, bad_arguments, braces, comparisons, division, kept_values,
-    plain_functions, text_lengths, worked_expressions,
+    arithmetic_at_its_edges, bad_arguments, braces, braces_of_every_pattern, comparisons, division,
+    kept_values, plain_functions, text_lengths, worked_expressions,
 };
 pub use systems::{circular_equations, equations_in_order};
 pub use trees::{

@@ -1,9 +1,11 @@
 // What the operations give at their edges.
-ghost use Rattle.std.specs.Prelude.{◌≡◌, ◌+◌, ◌-◌, ◌^◌, ◌++◌, [], ◌∷◌, ℕ, pos, negsuc, true, false, codes, length, List, None, All};
-ghost use Rattle.lido_base.specs.Operations.{operate, applied, chosen, last, unless_bad, kept};
+ghost use Rattle.std.specs.Prelude.{◌≡◌, ◌≢◌, ◌+◌, ◌-◌, ◌^◌, ◌++◌, if◌then◌else◌, flat_map, Contains, [], ◌∷◌, ℕ, pos, negsuc, true, false, codes, length, List, None, All};
+ghost use Rattle.lido_base.specs.Operations.{operate, argument, pattern_bytes, piece_bytes, chosen, last, unless_bad, kept};
 ghost use Rattle.lido_base.specs.Plain.{Plain, Int, Truth, Str, Text, Void, Bad, fault_of};
 ghost use Rattle.lido_base.specs.declared.operation.Op.{Op as Operation};
 ghost use Rattle.lido_base.specs.declared.operation.Op.TheVariants as op;
+ghost use Rattle.lido_base.specs.declared.pattern.Part.{Part};
+ghost use Rattle.lido_base.specs.declared.pattern.PartPiece.TheVariants.{Arg};
 ghost use Rattle.lido_base.specs.declared.pattern.Pattern.{Pattern};
 ghost use Rattle.lido_base.specs.declared.value.Origin.{Origin};
 ghost use Rattle.lido_base.specs.declared.value.BadKind.TheVariants.{Overflow, DivideByZero, TextTooLong};
@@ -112,6 +114,16 @@ pub fn braces()
     ensures skipped { gives (skipping ∷ []) (op.Pattern 0) (Text [] ∷ Int (pos 5) ∷ Text [] ∷ Text (codes "a") ∷ []) ≡ Text (codes "<5a") }
     ensures empty_string { gives (of_string ∷ []) (op.Pattern 0) (Str [] ∷ []) ≡ Text (codes "<") }
     ensures second_pattern { gives (spaced ∷ without_texts ∷ []) (op.Pattern 1) (Int (negsuc 0) ∷ []) ≡ Text (codes "<-1>") }
+{}
+
+/// Of every pattern: where no inserted text is empty, all its parts are printed; where one is, those without braces.
+pub fn braces_of_every_pattern()
+    ensures filled { (texts : List (List ℕ)) (pattern : Pattern) (args : List Plain)
+        → All (λ (part : Part). (k : ℕ) → part.piece ≡ Arg k → argument args k ≢ Text []) pattern.parts
+        → pattern_bytes texts (pattern ∷ []) 0 args ≡ flat_map (λ (part : Part). piece_bytes texts args part.piece) pattern.parts }
+    ensures empty { (texts : List (List ℕ)) (pattern : Pattern) (args : List Plain) (part : Part) (k : ℕ)
+        → Contains pattern.parts part → part.piece ≡ Arg k → argument args k ≡ Text []
+        → pattern_bytes texts (pattern ∷ []) 0 args ≡ flat_map (λ (p : Part). if p.brace then [] else piece_bytes texts args p.piece) pattern.parts }
 {}
 
 /// A place of type VOID keeps Void or the Bad value; the others keep the value.

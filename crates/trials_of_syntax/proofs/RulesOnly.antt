@@ -84,7 +84,7 @@ module _ (rules : List RuleItem) (attrs : List Decl) (terms chains : List Typed1
   not_declared_kind all s a kind (inr (d, m, e, f)) = let none : d.kind ≡ None = every (λ (d : Decl). d.kind ≡ None) attrs all d m in cc
 
   -- what the sides of targets tell
-  tells_within : (P : Kind → Type 0) → AllByRecursion (λ (r : RuleItem). AllByRecursion (λ (c : Comp). (kind : Kind) → IsOnSide kind (side_of r c.target) → P kind) r.body) rules → (s a : ℕ) (kind : Kind) → Tells (of_rules rules attrs terms chains) s a kind → P kind
+  pub tells_within : (P : Kind → Type 0) → AllByRecursion (λ (r : RuleItem). AllByRecursion (λ (c : Comp). (kind : Kind) → IsOnSide kind (side_of r c.target) → P kind) r.body) rules → (s a : ℕ) (kind : Kind) → Tells (of_rules rules attrs terms chains) s a kind → P kind
   tells_within P all s a kind (attributes.side r c x i b mr mc e on f g h) =
       every (λ (c : Comp). (kind : Kind) → IsOnSide kind (side_of r c.target) → P kind) r.body (every (λ (r : RuleItem). AllByRecursion (λ (c : Comp). (kind : Kind) → IsOnSide kind (side_of r c.target) → P kind) r.body) rules all r mr) c mc kind
       (rw e on)

@@ -49,6 +49,10 @@ spec = of_rules (top_rule ∷ item_rule ∷ []) (declaration n type.Int ∷ []) 
 abbrev pub undeclared : Spec
 undeclared = of_rules (top_rule ∷ item_rule ∷ []) [] [] []
 
+-- the same without the computation of an item's number
+abbrev pub without_a_number : Spec
+without_a_number = of_rules (top_rule ∷ plain_rule Item (Num ∷ []) [] ∷ []) (declaration n type.Int ∷ []) [] []
+
 -- (rTop (rItem 5) (rItem 6))
 abbrev pub tree : Tree Plain
 tree = root 0 (Child 1 ∷ Child 2 ∷ []) ∷ node 1 0 1 (Leaf (Int (pos 5)) ∷ []) ∷ node 1 0 2 (Leaf (Int (pos 6)) ∷ []) ∷ []

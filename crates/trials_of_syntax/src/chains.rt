@@ -1,6 +1,6 @@
 //! A chain through a list, with a start inside.
-ghost use Rattle.std.specs.Prelude.{◌≡◌, ℕ, ℤ, pos, [], ◌∷◌, ◌++◌, codes};
-ghost use Rattle.lido_base.specs.Plain.{Plain, Int, Text, Void};
+ghost use Rattle.std.specs.Prelude.{◌≡◌, pos, [], ◌∷◌, ◌++◌, codes};
+ghost use Rattle.lido_base.specs.Plain.{Int, Text, Void};
 ghost use Rattle.lido_syntax.specs.Chains.{IsThreaded, IsTail};
 ghost use Rattle.lido_syntax.specs.Constituents.{constituents_at};
 ghost use Rattle.lido_syntax.specs.Sets.{Sets};

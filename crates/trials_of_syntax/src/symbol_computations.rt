@@ -1,5 +1,5 @@
 //! Which computation is in force.
-ghost use Rattle.std.specs.Prelude.{◌≡◌, ℕ};
+ghost use Rattle.std.specs.Prelude.{◌≡◌};
 ghost use Rattle.lido_base.specs.declared.kinds.Kind.TheVariants as kind;
 ghost use Rattle.lido_base.specs.declared.value.ValueType.TheVariants as type_of;
 ghost use Rattle.lido_syntax.specs.Attributes.{Has, HasKind, HasType};

@@ -1,17 +1,15 @@
-use Rattle.std.specs.Prelude.{◌≡◌, ℕ, None, Contains, refl, [], ◌∷◌}
+use Rattle.std.specs.Prelude.{None, Contains, refl, [], ◌∷◌}
 use Rattle.std.proofs.Common.{arith, inl, inr}
 use Rattle.lido_base.specs.declared.kinds.Kind.{Kind}
 use Rattle.lido_base.specs.declared.kinds.Kind.TheVariants.{Synthesized}
-use Rattle.lido_syntax.specs.declared.spec.RuleItem.{RuleItem}
 use Rattle.lido_syntax.specs.Attributes as attributes
 use Rattle.lido_syntax.specs.Attributes.{uses, Has, HasKind, Tells, IsUse}
-use Rattle.lido_syntax.specs.Completeness.{IsComplete}
 use Rattle.lido_syntax.specs.Computation as goals
 use Rattle.lido_syntax.specs.Computation.{HasComputation}
 use Rattle.lido_syntax.proofs.ExpressionLemmas.{reads-Call}
 use Rattle.trials_of_syntax.specs.SumOfItems.{without_a_number, top_rule, out, Item, Num, n}
 use Rattle.trials_of_syntax.specs.Writing.{name, named, plain_rule}
-use Rattle.trials_of_syntax.proofs.RulesOnly.{only_rules, none_inherits, not_declared_kind, tells_within, side_of}
+use Rattle.trials_of_syntax.proofs.RulesOnly.{only_rules, none_inherits, not_declared_kind, tells_within}
 use Rattle.trials_of_syntax.proofs.whole.incomplete_specification.Goals as goal
 
 used : Contains (uses out) (named Item, name n)

@@ -26,6 +26,7 @@ module _ (spec : Spec) (sets : Sets spec) (env : Environment) (t : Tree Plain) w
   IsInstance n (Behind c) = IsThreadedNode n c
 
   -- Exactly the instances have values: an attribute that of its computation in force, of which a VOID one keeps a Bad alone, and the chains are threaded.
+  -- In a complete specification each attribute has a computation in force.
   pub record IsAttribution (A : Assignment) : Type 0 where
     pub domain : (n : ℕ) (slot : Slot) → IsSome (A n slot) ↔ IsInstance n slot
     pub values : (n a s context : ℕ) (ty : ValueType) (c : Comp) → HasSymbol spec t n s → Has spec s a → HasType spec s a ty → Computes spec t n a context c

@@ -21,6 +21,7 @@ module _ (spec : Spec) (t : Tree Plain) where
   abbrev pub InForceAt : ℕ → Goal → Comp → Type 0
   InForceAt n g c = (r : RuleItem) × (h : Holder) × IsAt n r × InForce spec r 0 (left_of r) g h c
 
+  -- some computation is in force for the goal on the node's left side
   abbrev pub HasInForce : ℕ → Goal → Type 0
   HasInForce n g = (c : Comp) × InForceAt n g c
 

@@ -24,9 +24,9 @@ module _ (spec : Spec) where
   abbrev pub IsTerm : ℕ → ValueType → Type 0
   IsTerm s ty = (x : Typed1) × Contains spec.terms x × (name_of x.name ≡ s) × (x.ty ≡ ty)
 
-  -- a terminal of a right side, with its type: as TERM says, else int
+  -- a terminal with its type: a name that TERM declares, or another name on a right side, which is an int
   abbrev pub IsTerminal : ℕ → ValueType → Type 0
-  IsTerminal s ty = IsOnRightSide s × ¬ IsNonterminal s × (IsTerm s ty ⊎ (((other : ValueType) → ¬ IsTerm s other) × (ty ≡ type.Int)))
+  IsTerminal s ty = ¬ IsNonterminal s × (IsTerm s ty ⊎ (IsOnRightSide s × ((other : ValueType) → ¬ IsTerm s other) × (ty ≡ type.Int)))
 
   -- CHAIN declares the name
   abbrev pub IsChain : ℕ → Type 0

@@ -1,5 +1,5 @@
 -- Inheritance and symbol computations, item by item.
-use Rattle.std.specs.Prelude.{Contains, Bool, true, false, IsTrue, ◌||◌, ◌&&◌, map}
+use Rattle.std.specs.Prelude.{Bool, true, false, IsTrue, ◌||◌, ◌&&◌, map}
 use Rattle.std.specs.List.{AllByRecursion, list_any}
 use Rattle.std.proofs.Common.{◌≡◌, ℕ, List, [], ◌∷◌, refl}
 use Rattle.lido_base.specs.Tree.{contains}
@@ -7,7 +7,7 @@ use Rattle.lido_syntax.specs.declared.spec.Spec.{Spec}
 use Rattle.lido_syntax.specs.declared.spec.Comp.{Comp}
 use Rattle.lido_syntax.specs.declared.spec.SymbolItem.{SymbolItem}
 use Rattle.lido_syntax.specs.Production.{name_of}
-use Rattle.lido_syntax.specs.Sets.{names_of, Inherits, inherits_directly}
+use Rattle.lido_syntax.specs.Sets.{names_of, Inherits}
 use Rattle.lido_syntax.specs.Computation.{Goal, InSymbol, IsSymbolTarget}
 use Rattle.lido_syntax.proofs.SetsLemmas.{Inherits-least}
 use Rattle.trials_of_syntax.proofs.Members.{every}
@@ -38,4 +38,4 @@ pub in_bodies : (spec : Spec) (s : ℕ) (goal : Goal) (P : Comp → Type 0)
     → (c : Comp) → InSymbol spec s goal c → P c
 in_bodies spec s goal P all c ((item, m, named, k), h) =
     every (λ (c : Comp). IsSymbolTarget spec c.target goal → P c) item.body
-        (every (λ (item : SymbolItem). IsTrue (contains s (names_of item)) → AllByRecursion (λ (c : Comp). IsSymbolTarget spec c.target goal → P c) item.body) spec.symbols all item m named) c k h
+    (every (λ (item : SymbolItem). IsTrue (contains s (names_of item)) → AllByRecursion (λ (c : Comp). IsSymbolTarget spec c.target goal → P c) item.body) spec.symbols all item m named) c k h

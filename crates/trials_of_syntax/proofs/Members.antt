@@ -1,7 +1,7 @@
 -- What holds of each item of a list that is written out.
 use Rattle.std.specs.Prelude.{Contains, Bool, true, false, IsTrue, ◌||◌, nat_eq}
 use Rattle.std.specs.List.{AllByRecursion}
-use Rattle.std.proofs.Common.{◌≡◌, ℕ, zero, suc, ◌⊎◌, inl, inr, List, [], ◌∷◌, Option, Some, None, refl, arith, subst, sym, ◌∙◌, eqb-true, eq-eqb}
+use Rattle.std.proofs.Common.{◌≡◌, ℕ, ◌⊎◌, inl, inr, List, [], ◌∷◌, Some, refl, arith, subst, sym, ◌∙◌, eqb-true, eq-eqb}
 use Rattle.lido_base.proofs.TreeLemmas.{contains-cons}
 
 pub every : {X : Type 0} (P : X → Type 0) (xs : List X) → AllByRecursion P xs → (x : X) → Contains xs x → P x

@@ -1,8 +1,8 @@
 -- The nodes of the nested start, one by one, and parts of lists.
 use Rattle.std.specs.Prelude.{Contains, slice_get, option_and_then}
 use Rattle.std.specs.List.{AllByRecursion}
-use Rattle.std.proofs.Common.{◌≡◌, ℕ, zero, suc, ◌⊎◌, inl, inr, List, [], ◌∷◌, ◌++◌, Option, Some, None, refl, arith, ap, subst, sym, ◌∙◌}
-use Rattle.lido_base.specs.Tree.{rule_at, children}
+use Rattle.std.proofs.Common.{◌≡◌, ℕ, zero, suc, ◌⊎◌, inl, inr, List, [], ◌∷◌, ◌++◌, Some, refl, arith, subst}
+use Rattle.lido_base.specs.Tree.{rule_at}
 use Rattle.lido_syntax.specs.declared.spec.Comp.{Comp}
 use Rattle.lido_syntax.specs.declared.spec.Name.{Name}
 use Rattle.lido_syntax.specs.declared.spec.Place.{Place}

@@ -1,9 +1,9 @@
 -- Specifications without SYMBOL items: nothing inherits, and rules alone compute, name and tell.
-use Rattle.std.specs.Prelude.{Bool, true, false, IsTrue, Contains, ℤ, slice_get, option_and_then}
+use Rattle.std.specs.Prelude.{Bool, true, false, IsTrue, slice_get, option_and_then}
 use Rattle.std.specs.List.{AllByRecursion}
-use Rattle.std.proofs.Common.{◌≡◌, ℕ, ◌⊎◌, inl, inr, List, [], ◌∷◌, Option, Some, None, refl, arith, ap, subst, ◌∙◌}
+use Rattle.std.proofs.Common.{◌≡◌, ℕ, inl, inr, List, [], Some, None, refl, arith, subst}
 use Rattle.lido_base.specs.declared.kinds.Kind.{Kind}
-use Rattle.lido_base.specs.declared.kinds.Kind.TheVariants.{Synthesized, Inherited}
+use Rattle.lido_base.specs.declared.kinds.Kind.TheVariants.{Synthesized}
 use Rattle.lido_base.specs.declared.value.ValueType.{ValueType}
 use Rattle.lido_base.specs.Plain.{Plain}
 use Rattle.lido_base.specs.Reach.{source, edge}
@@ -84,10 +84,10 @@ module _ (rules : List RuleItem) (attrs : List Decl) (terms chains : List Typed1
   not_declared_kind all s a kind (inr (d, m, e, f)) = let none : d.kind ≡ None = every (λ (d : Decl). d.kind ≡ None) attrs all d m in cc
 
   -- what the sides of targets tell
-  tells_within : (P : Kind → Type 0) → AllByRecursion (λ (r : RuleItem). AllByRecursion (λ (c : Comp). (kind : Kind) → IsOnSide kind (side_of r c.target) → P kind) r.body) rules → (s a : ℕ) (kind : Kind) → Tells (of_rules rules attrs terms chains) s a kind → P kind
+  pub tells_within : (P : Kind → Type 0) → AllByRecursion (λ (r : RuleItem). AllByRecursion (λ (c : Comp). (kind : Kind) → IsOnSide kind (side_of r c.target) → P kind) r.body) rules → (s a : ℕ) (kind : Kind) → Tells (of_rules rules attrs terms chains) s a kind → P kind
   tells_within P all s a kind (attributes.side r c x i b mr mc e on f g h) =
       every (λ (c : Comp). (kind : Kind) → IsOnSide kind (side_of r c.target) → P kind) r.body (every (λ (r : RuleItem). AllByRecursion (λ (c : Comp). (kind : Kind) → IsOnSide kind (side_of r c.target) → P kind) r.body) rules all r mr) c mc kind
-          (rw e on)
+      (rw e on)
   tells_within P all s a kind (attributes.synt c body u) = absurd (no_body s c body)
   tells_within P all s a kind (attributes.inh c body u) = absurd (no_body s c body)
 

@@ -2,14 +2,13 @@
 use Rattle.std.specs.Prelude.{Contains, slice_get, option_and_then}
 use Rattle.lido_base.specs.Tree.{rule_at}
 use Rattle.std.specs.List.{AllByRecursion}
-use Rattle.std.proofs.Common.{◌≡◌, ℕ, zero, suc, ◌⊎◌, inl, inr, List, [], ◌∷◌, Option, Some, None, refl, arith, ap, subst, sym, ◌∙◌}
+use Rattle.std.proofs.Common.{◌≡◌, ℕ, zero, suc, inl, [], ◌∷◌, Some, None, refl, arith, subst, sym, ◌∙◌}
 use Rattle.lido_base.specs.declared.kinds.Kind.{Kind}
 use Rattle.lido_base.specs.declared.kinds.Kind.TheVariants.{Synthesized, Inherited}
 use Rattle.lido_base.specs.declared.value.ValueType.{ValueType}
 use Rattle.lido_base.specs.declared.value.ValueType.TheVariants as type
 use Rattle.lido_syntax.specs.declared.spec.Decl.{Decl}
 use Rattle.lido_syntax.specs.declared.spec.RuleItem.{RuleItem}
-use Rattle.lido_syntax.specs.declared.spec.Expr.TheVariants as expr
 use Rattle.lido_syntax.specs.declared.spec.Name.{Name}
 use Rattle.lido_syntax.specs.declared.spec.Place.{Place}
 use Rattle.lido_syntax.specs.declared.spec.Place.TheVariants as place
@@ -18,10 +17,10 @@ use Rattle.lido_syntax.specs.Attributes.{Use, uses, reads, IsOnSide, Has, HasKin
 use Rattle.lido_syntax.specs.Attributes as attributes
 use Rattle.lido_syntax.specs.Nodes.{IsAt}
 use Rattle.lido_syntax.proofs.ExpressionLemmas.{reads-Call}
-use Rattle.trials_of_syntax.specs.Writing.{name, named, declaration}
+use Rattle.trials_of_syntax.specs.Writing.{name, declaration}
 use Rattle.trials_of_syntax.specs.SumOfItems.{spec, tree, top_rule, item_rule, out, number, Item, n}
 use Rattle.trials_of_syntax.proofs.Members.{every, some_same}
-use Rattle.trials_of_syntax.proofs.RulesOnly.{EachUse, OfNamed, side_of, has_within, kind_within, not_typed_by_symbol, rule_of}
+use Rattle.trials_of_syntax.proofs.RulesOnly.{EachUse, has_within, kind_within, not_typed_by_symbol, rule_of}
 
 -- the only symbol with an attribute, and its only attribute
 abbrev pub IsNumber : ℕ → ℕ → Type 0

@@ -1,5 +1,5 @@
 -- Computations of a rule, of a symbol and of classes for one attribute.
-use Rattle.std.specs.Prelude.{◌≡◌, ℕ, true, false, List, [], ◌∷◌}
+use Rattle.std.specs.Prelude.{ℕ, true, false, List, [], ◌∷◌}
 use Rattle.lido_base.specs.declared.value.ValueType.TheVariants as type
 use Rattle.lido_syntax.specs.declared.spec.Spec.{Spec}
 use Rattle.lido_syntax.specs.declared.spec.Comp.{Comp}
@@ -7,7 +7,7 @@ use Rattle.lido_syntax.specs.declared.spec.RuleItem.{RuleItem}
 use Rattle.lido_syntax.specs.declared.spec.SymbolItem.{SymbolItem}
 use Rattle.lido_syntax.specs.declared.spec.Place.TheVariants as place
 use Rattle.lido_syntax.specs.Production.{left_of}
-use Rattle.lido_syntax.specs.Computation.{Goal, Synthesized, Holder, InForce}
+use Rattle.lido_syntax.specs.Computation.{Synthesized, Holder, InForce}
 use Rattle.trials_of_syntax.specs.Writing.{int, named, attr, comp, plain_rule, symbol_item, declaration}
 
 abbrev pub Top : ℕ

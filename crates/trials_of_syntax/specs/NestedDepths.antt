@@ -1,7 +1,7 @@
 -- The depths of nested blocks, by an INCLUDING that looks strictly above:
 --   RULE rTop: Top ::= Block COMPUTE Top.depth = 0; END;
 --   RULE rBlock: Block LISTOF Block COMPUTE Block.depth = INCLUDING (Block.depth, Top.depth) + 1; END;
-use Rattle.std.specs.Prelude.{◌≡◌, ℕ, ℤ, pos, [], ◌∷◌, List}
+use Rattle.std.specs.Prelude.{◌≡◌, ℕ, pos, [], ◌∷◌, List}
 use Rattle.lido_base.specs.declared.value.ValueType.TheVariants as type
 use Rattle.lido_base.specs.Plain.{Plain, Int, Void}
 use Rattle.lido_base.specs.Tree.{Tree, Child}

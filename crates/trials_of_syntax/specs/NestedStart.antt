@@ -11,9 +11,8 @@
 --     Group.text = CONSTITUENTS Item.text SHIELD Item WITH (PTGNode, PTGSeq, IDENTICAL, PTGNull);
 --   END;
 -- The pattern is Line: $ int " " $ string "\n".
-use Rattle.std.specs.Prelude.{ℕ, ℤ, pos, false, List, [], ◌∷◌, ◌++◌, codes}
+use Rattle.std.specs.Prelude.{ℕ, pos, false, List, [], ◌∷◌, ◌++◌, codes}
 use Rattle.lido_base.specs.declared.value.ValueType.TheVariants as type
-use Rattle.lido_base.specs.declared.pattern.Pattern.{Pattern}
 use Rattle.lido_base.specs.declared.pattern.Part.{Part}
 use Rattle.lido_base.specs.declared.pattern.PartPiece.{PartPiece}
 use Rattle.lido_base.specs.declared.pattern.PartPiece.TheVariants.{Fixed, Arg}
@@ -106,6 +105,10 @@ tree =
     ∷ node 1 3 2 (Leaf (Str (codes "y")) ∷ [])
     ∷ node 1 0 3 (Leaf (Str (codes "b")) ∷ [])
     ∷ []
+
+-- (rList)
+abbrev pub empty_tree : Tree Plain
+empty_tree = root 0 [] ∷ []
 
 -- the text of one line
 abbrev pub of_line : List ℕ → Plain

@@ -4,7 +4,7 @@
 --   END;
 --   RULE rBlock: Block ::= Num Blocks COMPUTE Block.n = Num; END;
 --   RULE rBlocks: Blocks LISTOF Block END;
-use Rattle.std.specs.Prelude.{◌≡◌, ℕ, ℤ, pos, [], ◌∷◌, Some}
+use Rattle.std.specs.Prelude.{◌≡◌, ℕ, pos, [], ◌∷◌}
 use Rattle.lido_base.specs.declared.value.ValueType.TheVariants as type
 use Rattle.lido_base.specs.Plain.{Plain, Int}
 use Rattle.lido_base.specs.Tree.{Tree, Child, Leaf}

@@ -2,7 +2,7 @@
 --   ATTR n: int;
 --   RULE rTop: Top LISTOF Item COMPUTE PTGOut(PTGNumb(CONSTITUENTS Item.n WITH (int, ADD, IDENTICAL, ZERO))); END;
 --   RULE rItem: Item ::= Num COMPUTE Item.n = Num; END;
-use Rattle.std.specs.Prelude.{ℕ, ℤ, pos, [], ◌∷◌}
+use Rattle.std.specs.Prelude.{ℕ, pos, [], ◌∷◌}
 use Rattle.lido_base.specs.declared.value.ValueType.TheVariants as type
 use Rattle.lido_base.specs.Plain.{Plain, Int}
 use Rattle.lido_base.specs.Tree.{Tree, Child, Leaf}
@@ -48,6 +48,10 @@ spec = of_rules (top_rule ∷ item_rule ∷ []) (declaration n type.Int ∷ []) 
 -- the same without its ATTR item
 abbrev pub undeclared : Spec
 undeclared = of_rules (top_rule ∷ item_rule ∷ []) [] [] []
+
+-- the same without the computation of an item's number
+abbrev pub without_a_number : Spec
+without_a_number = of_rules (top_rule ∷ plain_rule Item (Num ∷ []) [] ∷ []) (declaration n type.Int ∷ []) [] []
 
 -- (rTop (rItem 5) (rItem 6))
 abbrev pub tree : Tree Plain

@@ -1,10 +1,10 @@
 -- How the specifications of the trials are written: names, expressions, rules and trees. All places are 0, and a name is a
 -- number: those below 20 are texts of functions, from 20 on stand symbols, from 30 on attributes and chains.
-use Rattle.std.specs.Prelude.{ℕ, pos, Bool, true, false, ◌&&◌, List, [], ◌∷◌, ◌++◌, map, Option, Some, None, option_map, find, nat_eq, codes}
+use Rattle.std.specs.Prelude.{ℕ, pos, Bool, true, false, ◌&&◌, List, [], ◌∷◌, map, Some, None, option_map, find, nat_eq, codes}
 use Rattle.lido_base.specs.declared.value.ValueType.{ValueType}
 use Rattle.lido_base.specs.declared.value.ValueType.TheVariants as type
 use Rattle.lido_base.specs.Plain.{Plain}
-use Rattle.lido_base.specs.Tree.{Tree, Node, Item}
+use Rattle.lido_base.specs.Tree.{Node, Item}
 use Rattle.lido_syntax.specs.Assignment.{Assignment, Slot, Attribute, Front, Behind}
 use Rattle.lido_syntax.specs.Functions.{Environment}
 use Rattle.lido_syntax.specs.declared.spec.Spec.{Spec}

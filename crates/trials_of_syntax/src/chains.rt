@@ -1,11 +1,11 @@
 //! A chain through a list, with a start inside.
-ghost use Rattle.std.specs.Prelude.{◌≡◌, ℕ, ℤ, pos, [], ◌∷◌, ◌++◌, codes};
-ghost use Rattle.lido_base.specs.Plain.{Plain, Text, Void};
+ghost use Rattle.std.specs.Prelude.{◌≡◌, pos, [], ◌∷◌, ◌++◌, codes};
+ghost use Rattle.lido_base.specs.Plain.{Int, Text, Void};
 ghost use Rattle.lido_syntax.specs.Chains.{IsThreaded, IsTail};
 ghost use Rattle.lido_syntax.specs.Constituents.{constituents_at};
 ghost use Rattle.lido_syntax.specs.Sets.{Sets};
 ghost use Rattle.lido_syntax.specs.Value.{value};
-ghost use Rattle.trials_of_syntax.specs.NestedStart.{env, spec, tree, counted, leaked, lines, of_line, no, item_rule, line, all_lines, group_lines};
+ghost use Rattle.trials_of_syntax.specs.NestedStart.{env, spec, tree, counted, leaked, empty_tree, lines, of_line, no, item_rule, line, all_lines, group_lines};
 
 /// A start counts for the nodes below it alone: the lines have the numbers 1, 10, 11 and 2, and the output is their lines.
 pub fn nested_start()
@@ -23,4 +23,12 @@ pub fn nested_start()
         ≡ Text (codes "10 x" ++ 10 ∷ codes "11 y" ++ 10 ∷ []) }
     ensures output { (sets : Sets spec) → constituents_at spec sets env tree lines all_lines 0 all_lines.with
         ≡ Text (codes "1 a" ++ 10 ∷ codes "10 x" ++ 10 ∷ codes "11 y" ++ 10 ∷ codes "2 b" ++ 10 ∷ []) }
+{}
+
+/// `TAIL` is what stands behind the last nonterminal child; without one it is the start's value, or what stands in front.
+pub fn tails()
+    ensures behind_the_last { (sets : Sets spec) → IsTail spec sets env tree counted no 3 (Int (pos 12)) }
+    ensures behind_the_group { (sets : Sets spec) → IsTail spec sets env tree counted no 2 (Int (pos 2)) }
+    ensures in_front { (sets : Sets spec) → IsTail spec sets env tree counted no 1 (Int (pos 1)) }
+    ensures started { (sets : Sets spec) → IsTail spec sets env empty_tree counted no 0 (Int (pos 1)) }
 {}

@@ -1,13 +1,6 @@
 //! Values of expressions without attributes, at any node of any tree.
-ghost use Rattle.std.specs.Prelude.{◌≡◌, [], ◌∷◌, List, ℕ, ℤ, pos, negsuc, false};
+ghost use Rattle.std.specs.Prelude.{[], pos, negsuc, false};
 ghost use Rattle.lido_base.specs.Plain.{Plain};
-ghost use Rattle.lido_base.specs.Tree.{Tree};
-ghost use Rattle.lido_syntax.specs.Assignment.{Assignment};
-ghost use Rattle.lido_syntax.specs.Sets.{Sets};
-ghost use Rattle.lido_syntax.specs.Value.{value};
-ghost use Rattle.lido_syntax.specs.declared.spec.RuleItem.{RuleItem};
-ghost use Rattle.lido_syntax.specs.declared.spec.Spec.{Spec};
-ghost use Rattle.trials_of_syntax.specs.Writing.{env};
 ghost use Rattle.trials_of_syntax.specs.Expressions.{IsAlways, chosen_branch, difference, remainder, division_by_zero, first_bad};
 ghost use Rattle.lido_base.specs.declared.value.BadKind.{BadKind};
 

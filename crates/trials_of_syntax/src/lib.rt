@@ -1,6 +1,7 @@
 //! The definitions of a specification's meaning, tried on small specifications whose meaning is known.
 //!
-//! Each function does nothing; what is proved is its contract: what the definitions give, without the product's code.
+//! Each function does nothing; what is proved is its contract: what the definitions give, without the product's
+//! code. Nothing of the product stands on this crate.
 #![tactic(auto)]
 
 mod chains;
@@ -9,8 +10,16 @@ mod remote_access;
 mod symbol_computations;
 mod whole;
 
-pub use chains::nested_start;
+pub use chains::{nested_start, tails};
 pub use expressions::values_of_expressions;
 pub use remote_access::{nested_depths, shielded_sums};
-pub use symbol_computations::{class_of_a_class, class_symbol_rule, two_classes_left};
-pub use whole::{attribute_of_an_item, complete_specification, fitting_trees, sum_of_items};
+pub use symbol_computations::{
+    attribute_of_a_class, class_of_a_class, class_symbol_rule, two_classes_left,
+};
+pub use whole::{
+    attribute_of_an_item, complete_specification, fitting_trees, incomplete_specification,
+    sum_of_items,
+};
+
+#[cfg(test)]
+mod tests;

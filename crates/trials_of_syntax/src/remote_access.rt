@@ -1,5 +1,5 @@
 //! INCLUDING and CONSTITUENTS.
-ghost use Rattle.std.specs.Prelude.{◌≡◌, ℕ, ℤ, pos, Some, None};
+ghost use Rattle.std.specs.Prelude.{◌≡◌, pos, Some, None};
 ghost use Rattle.lido_base.specs.Plain.{Int};
 ghost use Rattle.lido_syntax.specs.Including.{up};
 ghost use Rattle.lido_syntax.specs.Sets.{Sets};

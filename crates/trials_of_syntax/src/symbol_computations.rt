@@ -1,5 +1,8 @@
 //! Which computation is in force.
-ghost use Rattle.std.specs.Prelude.{◌≡◌, ℕ};
+ghost use Rattle.std.specs.Prelude.{◌≡◌};
+ghost use Rattle.lido_base.specs.declared.kinds.Kind.TheVariants as kind;
+ghost use Rattle.lido_base.specs.declared.value.ValueType.TheVariants as type_of;
+ghost use Rattle.lido_syntax.specs.Attributes.{Has, HasKind, HasType};
 ghost use Rattle.lido_syntax.specs.Computation.{Holder, by_rule, by_symbol, IsLeft, Synthesized};
 ghost use Rattle.lido_syntax.specs.declared.spec.Comp.{Comp};
 ghost use Rattle.trials_of_syntax.specs.Classes.{X, Y, Z, C, D, v, Forces, three, synt, x_rule, y_rule, z_rule, class_symbol_rule, class_of_class, two_classes};
@@ -23,4 +26,11 @@ pub fn two_classes_left()
     ensures first { IsLeft two_classes Z (Synthesized v) C }
     ensures second { IsLeft two_classes Z (Synthesized v) D }
     ensures none { (h : Holder) (c : Comp) → ¬ Forces two_classes z_rule h c }
+{}
+
+/// A symbol has the attributes of its classes, with the kind that the class tells.
+pub fn attribute_of_a_class()
+    ensures has { Has class_symbol_rule Z v }
+    ensures kind { HasKind class_symbol_rule Z v kind.Synthesized }
+    ensures type_ { HasType class_symbol_rule Z v type_of.Int }
 {}

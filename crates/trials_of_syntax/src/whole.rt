@@ -1,5 +1,5 @@
 //! A small specification in whole: its attributes, the trees that fit it, its only values and its output.
-ghost use Rattle.std.specs.Prelude.{◌≡◌, ℕ, ℤ, pos, codes, Ok};
+ghost use Rattle.std.specs.Prelude.{◌≡◌, ℕ, pos, codes, Ok};
 ghost use Rattle.lido_base.specs.Plain.{Int};
 ghost use Rattle.lido_base.specs.declared.kinds.Kind.TheVariants as kind;
 ghost use Rattle.lido_base.specs.declared.value.ValueType.TheVariants as type_of;
@@ -10,7 +10,7 @@ ghost use Rattle.lido_syntax.specs.Constituents.{constituents_at};
 ghost use Rattle.lido_syntax.specs.Fitting.{IsFitting};
 ghost use Rattle.lido_syntax.specs.Output.{IsResult};
 ghost use Rattle.lido_syntax.specs.Sets.{Sets};
-ghost use Rattle.trials_of_syntax.specs.SumOfItems.{Item, n, sum, spec, undeclared, tree, empty_tree, number_in_a_list, item_at_the_root, item_without_a_number, numbers, wrong_numbers, too_many_numbers};
+ghost use Rattle.trials_of_syntax.specs.SumOfItems.{Item, n, sum, spec, undeclared, without_a_number, tree, empty_tree, number_in_a_list, item_at_the_root, item_without_a_number, numbers, wrong_numbers, too_many_numbers};
 ghost use Rattle.trials_of_syntax.specs.Writing.{env};
 
 /// An item has its number alone: an int, as ATTR says, else VOID, and synthesized by the side of its target.
@@ -25,6 +25,11 @@ pub fn attribute_of_an_item()
 /// The specification is complete.
 pub fn complete_specification()
     ensures { IsComplete spec }
+{}
+
+/// Without the computation of the items' numbers it isn't.
+pub fn incomplete_specification()
+    ensures { ¬ IsComplete without_a_number }
 {}
 
 /// A list of two items fits, and an empty one; a number in the list doesn't, nor an item at the root, nor one without a number.

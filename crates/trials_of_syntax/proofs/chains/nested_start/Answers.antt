@@ -1,27 +1,25 @@
-use Rattle.std.specs.Prelude.{◌≡◌, ℕ, zero, suc, ◌<◌, IsSome, ◌⊎◌, ℤ, pos, true, false, Contains, Some, None, refl, List, [], ◌∷◌, ◌++◌, codes, slice_get, option_and_then}
+use Rattle.std.specs.Prelude.{◌≡◌, ℕ, zero, suc, ◌<◌, IsSome, ◌⊎◌, pos, true, Some, None, refl, List, [], ◌∷◌, ◌++◌}
 use Rattle.std.specs.Fmt.{digits}
-use Rattle.std.proofs.Common.{arith, subst, sym, ◌∙◌, ap, inl, inr}
+use Rattle.std.proofs.Common.{arith, subst, sym, ◌∙◌, inl, inr}
 use Rattle.lido_base.specs.Operations.{operate}
-use Rattle.lido_base.specs.Plain.{Plain, Int, Text, Void}
+use Rattle.lido_base.specs.Plain.{Plain, Int, Void}
 use Rattle.lido_base.specs.Reach.{source}
-use Rattle.lido_base.specs.Tree.{from_children, children, rule_at}
+use Rattle.lido_base.specs.Tree.{from_children, children}
 use Rattle.lido_syntax.specs.declared.spec.Comp.{Comp}
 use Rattle.lido_syntax.specs.declared.spec.Place.TheVariants as place
-use Rattle.lido_syntax.specs.Production.{left_of}
 use Rattle.lido_syntax.specs.Sets.{Sets}
-use Rattle.lido_syntax.specs.Assignment.{Assignment, Slot, Front, Behind}
+use Rattle.lido_syntax.specs.Assignment.{Slot, Front, Behind}
 use Rattle.lido_syntax.specs.Computation.{Goal, by_rule, of_rule, InRule, IsRuleTarget}
 use Rattle.lido_syntax.specs.Computation as goals
 use Rattle.lido_syntax.specs.Constituents.{weight_of}
 use Rattle.lido_syntax.specs.Nodes.{IsAt, InForceAt, HasInForce}
 use Rattle.lido_syntax.specs.Chains.{value_by, IsStart, IsComputed, IsThreaded}
-use Rattle.lido_syntax.proofs.ExpressionLemmas.{value-Call, reads-Call}
+use Rattle.lido_syntax.proofs.ExpressionLemmas.{value-Call}
 use Rattle.trials_of_syntax.specs.Writing.{Row}
 use Rattle.trials_of_syntax.proofs.Tables.{each_row, none_from}
-use Rattle.trials_of_syntax.specs.NestedStart.{chain_row, env, spec, tree, counted, leaked, top_rule, item_rule, sub_rule, group_rule, from_one, from_ten, next, all_lines, group_lines, Item, no}
-use Rattle.trials_of_syntax.proofs.Members.{every, some_same}
+use Rattle.trials_of_syntax.specs.NestedStart.{chain_row, env, spec, tree, counted, leaked, item_rule, next, all_lines, group_lines, Item, no}
 use Rattle.trials_of_syntax.proofs.NestedStartLemmas.{IsStartOf, IsLine, starts, start_at_top, start_at_group, assigns, next_in_force, adjacent, same_head, not_empty, none_at_end, only_last, no_tail_in_next, no_start_inside, group_unassigned}
-use Rattle.trials_of_syntax.proofs.RulesOnly.{only_rules, inherits-false, reaches-true}
+use Rattle.trials_of_syntax.proofs.RulesOnly.{reaches-true}
 use Rattle.trials_of_syntax.proofs.chains.nested_start.Goals as goal
 
 abbrev rows : List Row

@@ -1,4 +1,4 @@
-use Rattle.std.specs.Prelude.{◌≡◌, ℕ, true, false, [], ◌∷◌, refl}
+use Rattle.std.specs.Prelude.{◌≡◌, ℕ, true, false, refl}
 use Rattle.lido_base.specs.Operations.{operate}
 use Rattle.lido_base.specs.Reach.{source, edge}
 use Rattle.lido_base.specs.Tree.{from_children}
@@ -38,6 +38,6 @@ returns c = record {
   shielded = λ sets. simp (block-shielded sets) refl;
   unshielded = λ sets. simp (none sets, block sets, blocks sets) refl;
   inside = λ sets. simp (none sets, block sets, blocks sets) refl;
-  empty = λ sets. simp (none sets, block sets, blocks sets) refl;
+  empty = λ sets. simp (none sets, blocks sets) refl;
   stopped = λ sets. simp (none sets, block-stopped sets, blocks-stopped sets) refl;
 }

@@ -1,10 +1,9 @@
 use Rattle.std.specs.Prelude.{◌≡◌, ℕ, ◌⊎◌, [], ◌∷◌, refl, true}
-use Rattle.std.proofs.Common.{arith, sym, ◌∙◌, inl, inr}
+use Rattle.std.proofs.Common.{arith, inl, inr}
 use Rattle.lido_base.specs.Reach.{source}
-use Rattle.lido_syntax.specs.declared.spec.Comp.{Comp}
 use Rattle.lido_syntax.specs.Sets.{Inherits}
-use Rattle.lido_syntax.specs.Computation.{Goal, Synthesized, by_symbol, of_class, IsLeft, InSymbol, HasInSymbol}
-use Rattle.trials_of_syntax.specs.Classes.{Z, C, D, v, synt, class_c, z_rule, class_of_class, Forces}
+use Rattle.lido_syntax.specs.Computation.{Synthesized, of_class, IsLeft, InSymbol, HasInSymbol}
+use Rattle.trials_of_syntax.specs.Classes.{Z, C, D, v, synt, class_of_class}
 use Rattle.trials_of_syntax.specs.Writing.{symbol_item}
 use Rattle.trials_of_syntax.proofs.Members.{one_of, one_of_two, apart}
 use Rattle.trials_of_syntax.proofs.Classes.{inherits_within, in_bodies}

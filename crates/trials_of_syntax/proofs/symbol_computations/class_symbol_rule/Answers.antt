@@ -1,11 +1,10 @@
-use Rattle.std.specs.Prelude.{◌≡◌, ℕ, [], refl}
+use Rattle.std.specs.Prelude.{◌≡◌, ℕ, refl}
 use Rattle.std.proofs.Common.{arith, sym, ◌∙◌}
 use Rattle.lido_base.specs.Reach.{source}
 use Rattle.lido_syntax.specs.declared.spec.Comp.{Comp}
 use Rattle.lido_syntax.specs.Sets.{Inherits}
-use Rattle.lido_syntax.specs.Computation.{Goal, Synthesized, Holder, by_symbol, of_rule, of_symbol, of_class, IsLeft, InSymbol, HasInSymbol}
-use Rattle.trials_of_syntax.specs.Classes.{X, Y, Z, C, v, three, synt, class_c, x_rule, y_rule, z_rule, class_symbol_rule, Forces}
-use Rattle.trials_of_syntax.specs.Writing.{symbol_item}
+use Rattle.lido_syntax.specs.Computation.{Synthesized, Holder, by_symbol, of_rule, of_symbol, of_class, IsLeft, InSymbol, HasInSymbol}
+use Rattle.trials_of_syntax.specs.Classes.{X, Y, Z, C, v, synt, class_c, z_rule, class_symbol_rule, Forces}
 use Rattle.trials_of_syntax.proofs.Members.{one_of}
 use Rattle.trials_of_syntax.proofs.Classes.{inherits_within, in_bodies}
 use Rattle.trials_of_syntax.proofs.symbol_computations.class_symbol_rule.Goals as goal

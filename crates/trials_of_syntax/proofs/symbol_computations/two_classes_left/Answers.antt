@@ -1,9 +1,9 @@
 use Rattle.std.specs.Prelude.{◌≡◌, ℕ, ◌⊎◌, [], ◌∷◌, refl, true}
-use Rattle.std.proofs.Common.{arith, sym, ◌∙◌, inl, inr}
+use Rattle.std.proofs.Common.{arith, sym, inl, inr}
 use Rattle.lido_base.specs.Reach.{source}
 use Rattle.lido_syntax.specs.declared.spec.Comp.{Comp}
 use Rattle.lido_syntax.specs.Sets.{Inherits}
-use Rattle.lido_syntax.specs.Computation.{Goal, Synthesized, Holder, of_rule, of_symbol, of_class, IsLeft, HasInSymbol}
+use Rattle.lido_syntax.specs.Computation.{Synthesized, Holder, of_rule, of_symbol, of_class, IsLeft, HasInSymbol}
 use Rattle.trials_of_syntax.specs.Classes.{Z, C, D, v, synt, class_c, z_rule, two_classes, Forces}
 use Rattle.trials_of_syntax.specs.Writing.{symbol_item}
 use Rattle.trials_of_syntax.proofs.Members.{one_of, one_of_two, apart}

@@ -1,11 +1,11 @@
-use Rattle.std.specs.Prelude.{◌≡◌, ℕ, None, refl}
-use Rattle.std.proofs.Common.{arith, inl, inr}
+use Rattle.std.specs.Prelude.{None, refl}
+use Rattle.std.proofs.Common.{arith, inl}
 use Rattle.lido_syntax.specs.Attributes as attributes
 use Rattle.lido_syntax.specs.Attributes.{Has, HasKind, HasType, by_name}
 use Rattle.lido_base.specs.declared.kinds.Kind.TheVariants.{Synthesized}
 use Rattle.lido_base.specs.declared.value.ValueType.TheVariants as type
 use Rattle.trials_of_syntax.specs.SumOfItems.{spec, undeclared, item_rule, number, Item, n}
-use Rattle.trials_of_syntax.specs.Writing.{name, declaration}
+use Rattle.trials_of_syntax.specs.Writing.{name}
 use Rattle.trials_of_syntax.proofs.RulesOnly.{not_declared_kind, not_typed_by_symbol}
 use Rattle.trials_of_syntax.proofs.SumOfItemsLemmas.{only_number, has_number, type_number}
 use Rattle.trials_of_syntax.proofs.whole.attribute_of_an_item.Goals as goal

@@ -1,19 +1,15 @@
 use Rattle.std.specs.Prelude.{◌≡◌, ℕ, Contains, refl, [], ◌∷◌}
-use Rattle.std.specs.List.{AllByRecursion}
 use Rattle.std.proofs.Common.{arith, subst, sym, ◌∙◌}
-use Rattle.lido_base.specs.declared.kinds.Kind.{Kind}
 use Rattle.lido_base.specs.declared.kinds.Kind.TheVariants as kind
-use Rattle.lido_base.specs.declared.value.ValueType.{ValueType}
 use Rattle.lido_syntax.specs.declared.spec.Comp.{Comp}
 use Rattle.lido_syntax.specs.declared.spec.RuleItem.{RuleItem}
 use Rattle.lido_syntax.specs.Production.{left_of}
-use Rattle.lido_syntax.specs.Attributes as attributes
-use Rattle.lido_syntax.specs.Attributes.{Has, HasKind, HasType}
-use Rattle.lido_syntax.specs.Completeness.{IsSingle, IsComplete}
-use Rattle.lido_syntax.specs.Computation.{Goal, Synthesized, Inherited, by_rule, of_rule, InRule, InSymbol, HasComputation}
-use Rattle.trials_of_syntax.specs.SumOfItems.{spec, top_rule, item_rule, out, number, Top, Item, n}
+use Rattle.lido_syntax.specs.Attributes.{Has}
+use Rattle.lido_syntax.specs.Completeness.{IsSingle}
+use Rattle.lido_syntax.specs.Computation.{Synthesized, by_rule, of_rule, HasComputation}
+use Rattle.trials_of_syntax.specs.SumOfItems.{spec, item_rule, out, number, Top, Item, n}
 use Rattle.trials_of_syntax.proofs.Members.{every, apart}
-use Rattle.trials_of_syntax.proofs.RulesOnly.{no_body, not_typed_by_symbol}
+use Rattle.trials_of_syntax.proofs.RulesOnly.{no_body}
 use Rattle.trials_of_syntax.proofs.SumOfItemsLemmas.{only_number, only_synthesized, one_type}
 use Rattle.trials_of_syntax.proofs.whole.complete_specification.Goals as goal
 

@@ -1,9 +1,9 @@
-use Rattle.std.specs.Prelude.{◌≡◌, ℕ, zero, suc, ◌<◌, true, false, Contains, Some, refl, List, [], ◌∷◌, All, slice_index_or, length, ℤ, pos}
+use Rattle.std.specs.Prelude.{◌≡◌, ℕ, zero, suc, ◌<◌, true, false, refl, [], ◌∷◌, All, length, pos}
 use Rattle.std.specs.List.{AllZip}
-use Rattle.std.proofs.Common.{arith, rules, subst, sym, ◌∙◌, inl, inr}
+use Rattle.std.proofs.Common.{arith, rules, subst, sym, inr}
 use Rattle.lido_base.specs.declared.value.ValueType.TheVariants as type
-use Rattle.lido_base.specs.Plain.{Plain, Int}
-use Rattle.lido_base.specs.Tree.{ancestors, Item as Node, Leaf, Child, items_of}
+use Rattle.lido_base.specs.Plain.{Int}
+use Rattle.lido_base.specs.Tree.{ancestors, Leaf, Child, items_of}
 use Rattle.lido_base.proofs.TreeTests.{IsTested, tested-IsTree}
 use Rattle.lido_syntax.specs.declared.spec.RuleItem.{RuleItem}
 use Rattle.lido_syntax.specs.Production.{left_of, right_of}
@@ -12,7 +12,7 @@ use Rattle.lido_syntax.specs.Nodes.{IsAt, HasSymbol}
 use Rattle.lido_syntax.specs.Fitting.{IsItem, IsElement, IsFitting}
 use Rattle.lido_syntax.specs.Fitting as fitting
 use Rattle.trials_of_syntax.specs.SumOfItems.{spec, tree, empty_tree, number_in_a_list, item_at_the_root, item_without_a_number, top_rule, item_rule, Top, Item, Num}
-use Rattle.trials_of_syntax.proofs.Members.{some_same, apart}
+use Rattle.trials_of_syntax.proofs.Members.{some_same}
 use Rattle.trials_of_syntax.proofs.RulesOnly.{rule_of}
 use Rattle.trials_of_syntax.proofs.SumOfItemsLemmas.{by_node}
 use Rattle.trials_of_syntax.proofs.whole.fitting_trees.Goals as goal
@@ -28,7 +28,7 @@ top_root : IsRoot spec Top
 top_root = (refl, (λ h. cc))
 
 num_terminal : IsTerminal spec Num type.Int
-num_terminal = (refl, (λ h. cc), inr ((λ other h. omega (arith, h.1.1)), refl))
+num_terminal = ((λ h. cc), inr (refl, (λ other h. omega (arith, h.1.1)), refl))
 
 five : IsItem spec tree Num (Leaf (Int (pos 5)))
 five = fitting.int num_terminal (search rules) (search rules)

@@ -1,4 +1,4 @@
-use Rattle.std.specs.Prelude.{◌≡◌, ℕ, zero, suc, ℤ, pos, ◌↔◌, true, false, Contains, Some, Ok, IsSome, IsTrue, refl, List, [], ◌∷◌, codes}
+use Rattle.std.specs.Prelude.{◌≡◌, ℕ, zero, suc, pos, ◌↔◌, true, Contains, Some, IsSome, refl, List, [], ◌∷◌, codes}
 use Rattle.std.specs.Fmt.{digits}
 use Rattle.std.proofs.Common.{arith, subst, sym, ◌∙◌, ap, inl, inr}
 use Rattle.lido_base.specs.declared.value.ValueType.{ValueType}
@@ -11,13 +11,12 @@ use Rattle.lido_base.specs.Tree.{from_children}
 use Rattle.lido_syntax.specs.declared.spec.Comp.{Comp}
 use Rattle.lido_syntax.specs.declared.spec.Name.{Name}
 use Rattle.lido_syntax.specs.declared.spec.RuleItem.{RuleItem}
-use Rattle.lido_syntax.specs.declared.spec.Place.{Place}
 use Rattle.lido_syntax.specs.declared.spec.Place.TheVariants as place
 use Rattle.lido_syntax.specs.Production.{left_of}
 use Rattle.lido_syntax.specs.Sets.{Sets}
 use Rattle.lido_syntax.specs.Attributes.{reads}
 use Rattle.lido_syntax.specs.Assignment.{Assignment, Slot, Attribute, Front, Behind}
-use Rattle.lido_syntax.specs.Computation.{Goal, Synthesized, Inherited, by_rule, by_symbol, of_rule, InRule, IsRuleTarget}
+use Rattle.lido_syntax.specs.Computation.{Synthesized, Inherited, by_rule, by_symbol, of_rule, InRule, IsRuleTarget}
 use Rattle.lido_syntax.specs.Constituents.{weight_of, constituents_at}
 use Rattle.lido_syntax.specs.Nodes.{IsAt, HasSymbol, IsChild, Computes}
 use Rattle.lido_syntax.specs.Nodes as nodes
@@ -27,8 +26,8 @@ use Rattle.lido_syntax.specs.Output.{IsOutput, WentWrong}
 use Rattle.lido_syntax.proofs.ExpressionLemmas.{value-Call}
 use Rattle.trials_of_syntax.specs.SumOfItems.{spec, tree, empty_tree, numbers, wrong_numbers, too_many_numbers, top_rule, item_rule, sum, out, number, Top, Item, n}
 use Rattle.trials_of_syntax.specs.Writing.{env, Row}
-use Rattle.trials_of_syntax.proofs.Members.{every, some_same, apart}
-use Rattle.trials_of_syntax.proofs.RulesOnly.{only_rules, reaches-true, rule_of, has_within}
+use Rattle.trials_of_syntax.proofs.Members.{every, apart}
+use Rattle.trials_of_syntax.proofs.RulesOnly.{only_rules, reaches-true}
 use Rattle.trials_of_syntax.proofs.Tables.{each_row, each_value}
 use Rattle.trials_of_syntax.proofs.SumOfItemsLemmas.{by_node, only_number, int_number, has_number, type_number, no_tail_in_out}
 use Rattle.trials_of_syntax.proofs.whole.sum_of_items.Goals as goal
@@ -98,10 +97,10 @@ module _ (sets : Sets spec) where
   values : (m a context : ℕ) (ty : ValueType) (c : Comp) → a ≡ n → ty ≡ type.Int → Computes spec tree m a context c → IsValue m a ty context c
   values m a _ ty c ea et (nodes.synthesized (r, h, at, force)) =
       by_node (λ m r. InRule spec r 0 (Synthesized a) c → IsValue m a ty m c)
-          (λ h. absurd (top_computes_none a c h))
-          (λ h. every (λ (c : Comp). IsValue 1 a ty 1 c) item_rule.body ((Int (pos 5), computed_at 1 (Int (pos 5)) (1, refl, refl) refl, kept_as 1 a ty (Int (pos 5)) ea et refl), tt) c h.0)
-          (λ h. every (λ (c : Comp). IsValue 2 a ty 2 c) item_rule.body ((Int (pos 6), computed_at 2 (Int (pos 6)) (1, refl, refl) refl, kept_as 2 a ty (Int (pos 6)) ea et refl), tt) c h.0)
-          m r at (only_rules spec.rules spec.attrs spec.terms spec.chains r 0 (left_of r) (Synthesized a) h c force).1
+      (λ h. absurd (top_computes_none a c h))
+      (λ h. every (λ (c : Comp). IsValue 1 a ty 1 c) item_rule.body ((Int (pos 5), computed_at 1 (Int (pos 5)) (1, refl, refl) refl, kept_as 1 a ty (Int (pos 5)) ea et refl), tt) c h.0)
+      (λ h. every (λ (c : Comp). IsValue 2 a ty 2 c) item_rule.body ((Int (pos 6), computed_at 2 (Int (pos 6)) (1, refl, refl) refl, kept_as 2 a ty (Int (pos 6)) ea et refl), tt) c h.0)
+      m r at (only_rules spec.rules spec.attrs spec.terms spec.chains r 0 (left_of r) (Synthesized a) h c force).1
   values m a _ ty c ea et (nodes.inherited_of_rule p k s r child at hs force) =
       absurd (no_inherited m a p k r c at child (only_rules spec.rules spec.attrs spec.terms spec.chains r k s (Inherited a) by_rule c force).1)
   values m a _ ty c ea et (nodes.inherited_of_symbol p k s r child at hs force) =

@@ -19,9 +19,9 @@ ghost use Rattle.flat_grammar.specs.declared.plan.VisitClass.{VisitClass};
 ghost use Rattle.flat_grammar.specs.Rules.{reads, terminals_of};
 ghost use Rattle.flat_grammar.specs.Fitting.{cells, own_cells};
 ghost use Rattle.flat_grammar.specs.FlatAttribution.{value_of, fails};
-ghost use Rattle.flat_grammar.specs.Construction.{IsChosen};
+ghost use Rattle.flat_grammar.specs.Construction.{IsChosen, IsConstructed};
 ghost use Rattle.flat_grammar.specs.Dependencies.{IDS, IsClosed};
-ghost use Rattle.flat_grammar.specs.Partition.{kind_of_class, HasKind, IsPeeled, IsInClass, IsClass};
+ghost use Rattle.flat_grammar.specs.Partition.{kind_of_class, HasKind, IsPeeled, IsInClass, IsClass, AreVisits};
 ghost use Rattle.flat_grammar.specs.Cycles.{EDP};
 ghost use Rattle.flat_grammar.specs.SoundPlan.{goals_of, IsSoundSequence, IsSound, IsUnsound};
 ghost use Rattle.flat_grammar.specs.WholeOrder.{segment, sequence_at, item_order, order};
@@ -61,6 +61,12 @@ pub fn classes_have_one_kind()
 pub fn class_is_one_list()
     ensures { (symbols : List FlatSymbol) (rules : List FlatRule) (x : Symbol) (k : ℕ) (attrs others : List Attribute)
         → IsClass symbols rules x k attrs → IsClass symbols rules x k others → attrs ≡ others }
+{}
+
+/// A nonterminal has one row of visits.
+pub fn symbol_has_one_row_of_visits()
+    ensures { (symbols : List FlatSymbol) (rules : List FlatRule) (x : Symbol) (row other : List VisitClass)
+        → AreVisits symbols rules x row → AreVisits symbols rules x other → row ≡ other }
 {}
 
 /// An edge of the extended dependencies has one label.
@@ -106,6 +112,12 @@ pub fn order_goes_along_the_segment<V>()
 pub fn one_item_is_chosen()
     ensures { (symbols : List FlatSymbol) (rules : List FlatRule) (visits : List (List VisitClass)) (r : FlatRule) (before : List PlanItem) (item other : PlanItem)
         → IsChosen symbols rules visits r before item → IsChosen symbols rules visits r before other → item ≡ other }
+{}
+
+/// The construction gives a rule one sequence at most.
+pub fn one_sequence_is_constructed()
+    ensures { (symbols : List FlatSymbol) (rules : List FlatRule) (visits : List (List VisitClass)) (r : FlatRule) (seq other : List PlanItem)
+        → IsConstructed symbols rules visits r seq → IsConstructed symbols rules visits r other → seq ≡ other }
 {}
 
 /// The reads of a call, an IF or an ORDER are those of its arguments.

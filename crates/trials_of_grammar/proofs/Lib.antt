@@ -10,3 +10,4 @@ pub mod CrossedUses
 pub mod LateInheritedVisits
 pub mod LateInheritedConstruction
 pub mod PlainGrammars
+pub mod FaultyItems

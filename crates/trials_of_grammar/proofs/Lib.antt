@@ -11,3 +11,4 @@ pub mod LateInheritedVisits
 pub mod LateInheritedConstruction
 pub mod PlainGrammars
 pub mod FaultyItems
+pub mod LateInheritedRows

@@ -1,7 +1,8 @@
 -- Lists by places and by elements.
 use Rattle.std.specs.Prelude.{Contains, AllPairs, slice_get}
 use Rattle.std.specs.List.{AllZip, slice_index_or}
-use Rattle.std.proofs.Common.{◌≡◌, ℕ, zero, suc, ◌<◌, ◌⊎◌, inl, inr, List, [], ◌∷◌, map, take, Some, refl, arith, ap, sym, subst, ◌∙◌, unwrap_or}
+use Rattle.std.proofs.Common.{◌≡◌, ℕ, zero, suc, ◌<◌, ◌⊎◌, inl, inr, List, [], ◌∷◌, map, take, Some, refl, arith, ap, sym, subst, ◌∙◌, unwrap_or, drop, ◌++◌, length-append, ◌+◌, length}
+use Rattle.std.proofs.lemmas.List.Elements.{Contains-append_right}
 use Rattle.std.proofs.lemmas.Option.{none-some}
 use Rattle.std.specs.List.Sorted.{IsStrictlyIncreasing}
 use Rattle.std.proofs.lemmas.List.{length-map}
@@ -103,3 +104,18 @@ module _ {X : Type 0} (number : X → ℕ) (numbered : (x y : X) → number x �
   pub same-increasing : (xs ys : List X) → IsStrictlyIncreasing (map number xs) → IsStrictlyIncreasing (map number ys) → ((a : X) → Contains xs a → Contains ys a) → ((a : X) → Contains ys a → Contains xs a)
       → xs ≡ ys
   same-increasing xs ys h k to back = same-ascending xs ys (ascends-pairs xs (AllPairs-from_increasing _ h)) (ascends-pairs ys (AllPairs-from_increasing _ k)) to back
+
+-- lists as long as each other with the same elements at the same places are the same
+pub same-by-places : {X : Type 0} (xs ys : List X) → length xs ≡ length ys → ((k : ℕ) (x y : X) → slice_get xs k ≡ Some x → slice_get ys k ≡ Some y → x ≡ y) → xs ≡ ys
+same-by-places [] [] e h = refl
+same-by-places [] (y ∷ ys) e h = absurd (omega (arith, e))
+same-by-places (x ∷ xs) [] e h = absurd (omega (arith, e))
+same-by-places (x ∷ xs) (y ∷ ys) e h = let first = h zero x y refl refl in let rest = same-by-places xs ys (omega (arith, e)) (λ k a b f g. h (suc k) a b f g) in λ i. first i ∷ rest i
+
+-- the last item of a list stands in each end of it
+pub last-in-end : {X : Type 0} (xs : List X) (y : X) (ys front : List X) (x : X) → xs ++ (y ∷ ys) ≡ front ++ x ∷ [] → Contains (y ∷ ys) x
+last-in-end [] y ys front x e = subst (λ l. Contains l x) (sym e) (Contains-append_right front (x ∷ []) x (contains-first x []))
+last-in-end (a ∷ xs) y ys [] x e =
+    let f : length (xs ++ (y ∷ ys)) ≡ 0 = ap (λ l. length (drop 1 l)) e in
+    let g : length (xs ++ (y ∷ ys)) ≡ length xs + length (y ∷ ys) = length-append xs (y ∷ ys) in absurd (omega (arith, f, g))
+last-in-end (a ∷ xs) y ys (b ∷ front) x e = last-in-end xs y ys front x (ap (λ l. drop 1 l) e)

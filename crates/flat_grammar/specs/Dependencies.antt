@@ -26,6 +26,7 @@ module _ (rules : List FlatRule) where
       edge : {r : FlatRule} {u v : Occ} → IDP r u v → Joins r u v
       further : {r : FlatRule} {u v w : Occ} → IDP r u v → Joins r v w → Joins r u w
 
+    -- the induced dependencies of a symbol: a path of some rule joins the two attributes at one occurrence of it
     pub data IDS : SymId → AttrId → AttrId → Type 0 where
       joined : {r : FlatRule} {u v : Occ} {x : SymId} → Contains rules r → Joins r u v → u.occ ≡ v.occ → symbol_at r u.occ ≡ Some x → IDS x u.attr v.attr
 

@@ -85,6 +85,7 @@ module _ {V : Type 0} (symbols : List FlatSymbol) (rules : List FlatRule) (flat 
 abbrev pub most_instances : ℕ
 most_instances = 4194304
 
+-- the most text cells that a flat tree may have
 abbrev pub most_text_cells : ℕ
 most_text_cells = 16777216
 

@@ -16,10 +16,12 @@ use Rattle.flat_grammar.specs.declared.plan.PlanItem.TheVariants.{Eval, Visit, L
 use Rattle.flat_grammar.specs.Rules.{symbol_at, dependencies}
 use Rattle.flat_grammar.specs.WellFormed.{is_nonterminal, attribute_of}
 
+-- the item ends a visit of the left side
 abbrev pub is_leave : PlanItem → Bool
 is_leave (Leave v) = true
 is_leave _ = false
 
+-- the item is a visit of this child
 abbrev pub is_visit_of : ℕ → PlanItem → Bool
 is_visit_of child (Visit k v) = nat_eq k child
 is_visit_of child _ = false

@@ -12,6 +12,7 @@ use Rattle.flat_grammar.specs.declared.flat.FlatRule.{FlatRule}
 use Rattle.flat_grammar.specs.declared.flat.Shape.{Shape}
 use Rattle.flat_grammar.specs.Rules.{symbols_of, symbol_at, attribute_at, attrs_of, dependencies, terminals_of}
 
+-- the two are one symbol
 abbrev pub is_same_symbol : SymId → SymId → Bool
 is_same_symbol s q = s.0 == q.0
 
@@ -20,13 +21,16 @@ abbrev pub different : List SymId → List SymId
 different [] = []
 different (s ∷ more) = s ∷ filter (λ q. not (is_same_symbol s q)) (different more)
 
+-- the two are one attribute occurrence
 abbrev pub is_same_occ : Occ → Occ → Bool
 is_same_occ o p = (o.occ == p.occ) && (o.attr.0 == p.attr.0)
 
+-- the kind is synthesized
 abbrev pub is_synthesized : Kind → Bool
 is_synthesized Synthesized = true
 is_synthesized Inherited = false
 
+-- the symbol is there and is no terminal
 abbrev pub is_nonterminal_symbol : Option FlatSymbol → Bool
 is_nonterminal_symbol None = false
 is_nonterminal_symbol (Some x) = not (is_some x.terminal)
@@ -38,6 +42,7 @@ is_goal_kind zero (Some attr) = is_synthesized attr.kind
 is_goal_kind (suc k) (Some attr) = not (is_synthesized attr.kind)
 
 module _ (symbols : List FlatSymbol) where
+  -- the number is that of a nonterminal
   abbrev pub is_nonterminal : SymId → Bool
   is_nonterminal s = is_nonterminal_symbol (slice_get symbols s.0)
 
@@ -68,6 +73,7 @@ abbrev pub positions_from : (FlatRule → Bool) → ℕ → List FlatRule → Li
 positions_from p k [] = []
 positions_from p k (r ∷ more) = if p r then k ∷ positions_from p (suc k) more else positions_from p (suc k) more
 
+-- the places, from 0, of the rules that pass the test
 abbrev pub positions_of : (FlatRule → Bool) → List FlatRule → List ℕ
 positions_of p rules = positions_from p 0 rules
 

@@ -33,6 +33,7 @@ module _ {V : Type 0} (t : Tree V) where
     abbrev pub sequence_at : ℕ → List PlanItem
     sequence_at n = unwrap_or (slice_get seqs (unwrap_or (rule_at t n) 0)) []
 
+    -- what a visit of the child evaluates, and nothing where no node stands
     abbrev pub visit_order : (ℕ → ℕ → List Instance) → Option ℕ → ℕ → List Instance
     visit_order below None v = []
     visit_order below (Some c) v = below c v

@@ -1,17 +1,27 @@
 //! Laws of the definitions: functions that do nothing, whose contracts are the laws.
-ghost use Rattle.std.specs.Prelude.{◌≡◌, ◌<◌, ◌≤◌, ◌-◌, ◌⊎◌, ℕ, Bool, IsTrue, List, length, flat_map, slice_get, Contains};
+ghost use Rattle.std.specs.Prelude.{◌≡◌, ◌<◌, ◌≤◌, ◌+◌, ◌-◌, ℕ, Bool, IsTrue, List, length, map, flat_map, sum_by, slice_get, Contains};
+ghost use Rattle.lido_base.specs.Operations.{operate, unless_bad, chosen, last};
+ghost use Rattle.lido_base.specs.Plain.{Plain};
 ghost use Rattle.lido_base.specs.Tree.{Tree, IsTree};
+ghost use Rattle.lido_base.specs.declared.operation.Op.{Op as Operation};
+ghost use Rattle.lido_base.specs.declared.pattern.Pattern.{Pattern};
 ghost use Rattle.lido_base.specs.declared.ids.SymId.{SymId as Symbol};
 ghost use Rattle.lido_base.specs.declared.ids.AttrId.{AttrId as Attribute};
 ghost use Rattle.flat_grammar.specs.declared.flat.Occ.{Occ as Occurrence};
 ghost use Rattle.flat_grammar.specs.declared.flat.FlatSymbol.{FlatSymbol};
 ghost use Rattle.flat_grammar.specs.declared.flat.FlatRule.{FlatRule};
+ghost use Rattle.flat_grammar.specs.declared.flat.FlatExpr.{FlatExpr as Expression};
+ghost use Rattle.flat_grammar.specs.declared.flat.FlatExpr.TheVariants as expr;
 ghost use Rattle.flat_grammar.specs.declared.plan.Label.{Label};
 ghost use Rattle.flat_grammar.specs.declared.plan.PlanItem.{PlanItem};
 ghost use Rattle.flat_grammar.specs.declared.plan.PlanItem.TheVariants.{Eval};
 ghost use Rattle.flat_grammar.specs.declared.plan.VisitClass.{VisitClass};
+ghost use Rattle.flat_grammar.specs.Rules.{reads, terminals_of};
+ghost use Rattle.flat_grammar.specs.Fitting.{cells, own_cells};
+ghost use Rattle.flat_grammar.specs.FlatAttribution.{value_of, fails};
+ghost use Rattle.flat_grammar.specs.Construction.{IsChosen, IsConstructed};
 ghost use Rattle.flat_grammar.specs.Dependencies.{IDS, IsClosed};
-ghost use Rattle.flat_grammar.specs.Partition.{kind_of_class, HasKind, IsPeeled, IsInClass, IsClass};
+ghost use Rattle.flat_grammar.specs.Partition.{kind_of_class, HasKind, IsPeeled, IsInClass, IsClass, AreVisits};
 ghost use Rattle.flat_grammar.specs.Cycles.{EDP};
 ghost use Rattle.flat_grammar.specs.SoundPlan.{goals_of, IsSoundSequence, IsSound, IsUnsound};
 ghost use Rattle.flat_grammar.specs.WholeOrder.{segment, sequence_at, item_order, order};
@@ -53,6 +63,12 @@ pub fn class_is_one_list()
         → IsClass symbols rules x k attrs → IsClass symbols rules x k others → attrs ≡ others }
 {}
 
+/// A nonterminal has one row of visits.
+pub fn symbol_has_one_row_of_visits()
+    ensures { (symbols : List FlatSymbol) (rules : List FlatRule) (x : Symbol) (row other : List VisitClass)
+        → AreVisits symbols rules x row → AreVisits symbols rules x other → row ≡ other }
+{}
+
 /// An edge of the extended dependencies has one label.
 pub fn edge_has_one_label()
     ensures { (symbols : List FlatSymbol) (rules : List FlatRule) (r : FlatRule) (u v : Occurrence) (label other : Label)
@@ -90,4 +106,49 @@ pub fn sound_plan_has_no_fault()
 pub fn order_goes_along_the_segment<V>()
     ensures { (t : Tree V) (seqs : List (List PlanItem)) → IsTree t → (n v : ℕ) → n < length t
         → order t seqs n v ≡ flat_map (item_order t seqs (order t seqs) n) (segment (v - 1) (sequence_at t seqs n)) }
+{}
+
+/// The construction chooses one item at most.
+pub fn one_item_is_chosen()
+    ensures { (symbols : List FlatSymbol) (rules : List FlatRule) (visits : List (List VisitClass)) (r : FlatRule) (before : List PlanItem) (item other : PlanItem)
+        → IsChosen symbols rules visits r before item → IsChosen symbols rules visits r before other → item ≡ other }
+{}
+
+/// The construction gives a rule one sequence at most.
+pub fn one_sequence_is_constructed()
+    ensures { (symbols : List FlatSymbol) (rules : List FlatRule) (visits : List (List VisitClass)) (r : FlatRule) (seq other : List PlanItem)
+        → IsConstructed symbols rules visits r seq → IsConstructed symbols rules visits r other → seq ≡ other }
+{}
+
+/// The reads of a call, an IF or an ORDER are those of its arguments.
+pub fn reads_go_down_the_arguments()
+    ensures call { (comp : ℕ) (op : Operation) (args : List Expression) → reads (expr.Apply comp op args) ≡ flat_map reads args }
+    ensures choice { (args : List Expression) → reads (expr.If args) ≡ flat_map reads args }
+    ensures order { (args : List Expression) → reads (expr.Order args) ≡ flat_map reads args }
+{}
+
+/// The terminals of a call, an IF or an ORDER are those of its arguments.
+pub fn terminals_go_down_the_arguments()
+    ensures call { (comp : ℕ) (op : Operation) (args : List Expression) → terminals_of (expr.Apply comp op args) ≡ flat_map terminals_of args }
+    ensures choice { (args : List Expression) → terminals_of (expr.If args) ≡ flat_map terminals_of args }
+    ensures order { (args : List Expression) → terminals_of (expr.Order args) ≡ flat_map terminals_of args }
+{}
+
+/// The text cells of a call, an IF or an ORDER are its own and those of its arguments.
+pub fn text_cells_go_down_the_arguments()
+    ensures call { (comp : ℕ) (op : Operation) (args : List Expression) → cells (expr.Apply comp op args) ≡ own_cells op (length args) + sum_by cells args }
+    ensures choice { (args : List Expression) → cells (expr.If args) ≡ sum_by cells args }
+    ensures order { (args : List Expression) → cells (expr.Order args) ≡ sum_by cells args }
+{}
+
+/// The value of a call, an IF or an ORDER is made of the values of its arguments.
+pub fn values_go_down_the_arguments()
+    ensures call { (texts : List (List ℕ)) (patterns : List Pattern) (t : Tree Plain) (node_of : List ℕ) (B : ℕ → ℕ → Plain) (origin n : ℕ) (comp : ℕ) (op : Operation) (args : List Expression)
+        → value_of texts patterns t node_of B origin n (expr.Apply comp op args)
+        ≡ operate texts patterns (fails texts patterns t node_of B origin n comp) op (map (value_of texts patterns t node_of B origin n) args) }
+    ensures choice { (texts : List (List ℕ)) (patterns : List Pattern) (t : Tree Plain) (node_of : List ℕ) (B : ℕ → ℕ → Plain) (origin n : ℕ) (args : List Expression)
+        → value_of texts patterns t node_of B origin n (expr.If args) ≡ chosen (map (value_of texts patterns t node_of B origin n) args) }
+    ensures order { (texts : List (List ℕ)) (patterns : List Pattern) (t : Tree Plain) (node_of : List ℕ) (B : ℕ → ℕ → Plain) (origin n : ℕ) (args : List Expression)
+        → (let values = map (value_of texts patterns t node_of B origin n) args in
+        value_of texts patterns t node_of B origin n (expr.Order args) ≡ unless_bad values (last values)) }
 {}

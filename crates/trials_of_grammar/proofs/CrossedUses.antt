@@ -12,7 +12,7 @@ use Rattle.flat_grammar.specs.declared.plan.CycleStep.{CycleStep}
 use Rattle.flat_grammar.specs.declared.plan.Label.TheVariants.{Direct, Induced, Partition}
 use Rattle.flat_grammar.specs.Dependencies.{DP, IDS}
 use Rattle.flat_grammar.specs.Partition.{HasKind, IsPeeled, IsEarlier}
-use Rattle.flat_grammar.specs.Cycles.{IsAtMost, EDP, direct, induced, partition, IsCycle, IsAcyclic, IsCircular}
+use Rattle.flat_grammar.specs.Cycles.{IsAtMost, EDP, direct, induced, partition, IsCycle, IsAcyclic, IsCircular, IsOrderedGrammar}
 use Rattle.flat_grammar.proofs.Lists.{held, contains-first, contains-nil}
 use Rattle.trials_of_grammar.specs.ListOfItems.{symbol, occurrence}
 use Rattle.trials_of_grammar.specs.CrossedUses.{symbols, rules, S_rule, s_attribute, i_of_X1, i_of_X2, X1_i, X1_s, X2_i, X2_s, step, circle, wrong_label, wrong_start}
@@ -95,3 +95,6 @@ label-wrong h = not-induced h.0.1.1.0
 
 pub start-wrong : ¬ IsCycle symbols rules S_rule wrong_start
 start-wrong h = elim (h.2 2 (record { from = X1_i; label = Partition }) (omega arith)) [ inl l ↦ absurd (omega (arith, l)) | inr e ↦ absurd (let l = e.1 in omega (arith, l)) ]
+
+pub not-ordered : ¬ IsOrderedGrammar symbols rules
+not-ordered h = h 0 S_rule (omega arith) circle cycle

@@ -217,7 +217,7 @@ row-of (suc (suc (suc (suc (suc zero))))) row e = (end_rule, (3, refl, refl), ap
 row-of (suc (suc (suc (suc (suc (suc n)))))) row e = absurd (none-some _ e)
 
 -- what holds at each node's own rule
-at-rules : (P : ℕ → FlatRule → Type 0) → P 0 list_rule → P 1 cell_rule → P 2 item_rule → P 3 cell_rule → P 4 item_rule → P 5 end_rule → (n : ℕ) (r : FlatRule) → HasRule rules two_cells n r → P n r
+pub at-rules : (P : ℕ → FlatRule → Type 0) → P 0 list_rule → P 1 cell_rule → P 2 item_rule → P 3 cell_rule → P 4 item_rule → P 5 end_rule → (n : ℕ) (r : FlatRule) → HasRule rules two_cells n r → P n r
 at-rules P a b c d e f zero r h = subst (λ s. P 0 s) (rule-is rules two_cells 0 0 r list_rule refl refl h) a
 at-rules P a b c d e f (suc zero) r h = subst (λ s. P 1 s) (rule-is rules two_cells 1 2 r cell_rule refl refl h) b
 at-rules P a b c d e f (suc (suc zero)) r h = subst (λ s. P 2 s) (rule-is rules two_cells 2 1 r item_rule refl refl h) c

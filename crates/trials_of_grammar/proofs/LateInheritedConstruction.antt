@@ -1,7 +1,6 @@
 -- The plan of the late inherited attribute is the one that the construction gives.
-use Rattle.std.specs.Prelude.{Contains, All, slice_get, nat_eq, Bool, true, false, IsTrue, take}
-use Rattle.std.specs.List.{AllZip}
-use Rattle.std.proofs.Common.{◌≡◌, ℕ, zero, suc, ◌+◌, ◌<◌, ◌≤◌, ◌⊎◌, inl, inr, List, [], ◌∷◌, length, Option, Some, None, refl, arith, ap, sym, subst, ◌∙◌}
+use Rattle.std.specs.Prelude.{Contains, slice_get, take}
+use Rattle.std.proofs.Common.{◌≡◌, ℕ, zero, suc, ◌<◌, ◌≤◌, ◌⊎◌, inl, inr, List, [], ◌∷◌, length, Some, None, refl, arith, ap, sym, subst, ◌∙◌}
 use Rattle.std.proofs.lemmas.Option.{none-some}
 use Rattle.lido_base.specs.declared.ids.AttrId.{AttrId}
 use Rattle.lido_base.specs.declared.ids.SymId.{SymId}
@@ -14,15 +13,14 @@ use Rattle.flat_grammar.specs.declared.plan.PlanItem.{PlanItem}
 use Rattle.flat_grammar.specs.declared.plan.PlanItem.TheVariants.{Eval, Visit, Leave}
 use Rattle.flat_grammar.specs.declared.plan.VisitClass.{VisitClass}
 use Rattle.flat_grammar.specs.Rules.{symbol_at, dependencies}
-use Rattle.flat_grammar.specs.Dependencies.{DP, IDS}
-use Rattle.flat_grammar.specs.Partition.{IsEarlier}
+use Rattle.flat_grammar.specs.Dependencies.{IDS}
 use Rattle.flat_grammar.specs.Cycles.{EDP, direct, induced, partition, IsAtMost}
-use Rattle.flat_grammar.specs.SoundPlan.{IsEvaluated, IsAtHand, IsClassAt, goals_of, segment_after, visits_made}
-use Rattle.flat_grammar.specs.Construction.{IsLeft, IsReady, IsReadyVisit, IsNext, IsOfUse, IsChosen, HasReady, HasReadyVisit, HasNext, evaluation, ready_visit, next_visit, leave, IsConstructed, AreConstructed}
-use Rattle.flat_grammar.proofs.Lists.{held, contains-first, contains-later, contains-cons, contains-nil}
+use Rattle.flat_grammar.specs.SoundPlan.{IsEvaluated, IsAtHand, IsClassAt, segment_after, visits_made}
+use Rattle.flat_grammar.specs.Construction.{IsReady, IsReadyVisit, IsNext, IsOfUse, IsChosen, HasReady, HasReadyVisit, HasNext, evaluation, ready_visit, next_visit, leave, AreConstructed}
+use Rattle.flat_grammar.proofs.Lists.{held, contains-cons, contains-nil}
 use Rattle.trials_of_grammar.specs.ListOfItems.{symbol, occurrence}
-use Rattle.trials_of_grammar.specs.LateInherited.{attribute, symbols, S_v, S_out, A_i, B_v, i_of_A, v_of_S, out_of_S, v_of_B, S_rule, A_rule, B_rule, rules, visits_of_S, visits_of_A, visits_of_B, visits, S_sequence, A_sequence, B_sequence, sequences}
-use Rattle.trials_of_grammar.proofs.Finite.{never, all-of, each-of, numbers-apart, occurrences-apart}
+use Rattle.trials_of_grammar.specs.LateInherited.{attribute, symbols, S_v, S_out, A_i, B_v, v_of_S, out_of_S, S_rule, A_rule, B_rule, rules, visits_of_S, visits_of_A, visits_of_B, visits, S_sequence, A_sequence, B_sequence, sequences}
+use Rattle.trials_of_grammar.proofs.Finite.{all-of, each-of, numbers-apart, occurrences-apart}
 use Rattle.trials_of_grammar.proofs.TestedPlans.{evaluated-holds, evaluated-not, is-at-hand, class_at, class-is}
 use Rattle.trials_of_grammar.proofs.LateInheritedVisits.{S-pair, A-none, B-none, not-earlier}
 use Rattle.trials_of_grammar.proofs.LateInheritedPlan.{S-ends, A-ends, B-ends}
@@ -140,12 +138,18 @@ A-ready : Ready at0 A_i
 A-ready = (((0, omega arith, refl), evaluated-not at0 A_i refl), λ u label e. elim (S-edges u A_i label e) [ inl p ↦ absurd (occurrences-apart A_i S_v refl p.1) | inr p ↦ absurd (occurrences-apart A_i S_out refl p.1) ])
 
 v-ready : Ready at2 S_v
-v-ready = (((1, omega arith, refl), evaluated-not at2 S_v refl), λ u label e. elim (S-edges u S_v label e)
-    [ inl p ↦ subst (λ o. IsAtHand visits S_rule at2 o) (sym p.0) (is-at-hand visits S_rule at2 B_v refl) | inr p ↦ absurd (occurrences-apart S_v S_out refl p.1) ])
+v-ready = (
+  ((1, omega arith, refl), evaluated-not at2 S_v refl),
+  λ u label e. elim (S-edges u S_v label e)
+      [ inl p ↦ subst (λ o. IsAtHand visits S_rule at2 o) (sym p.0) (is-at-hand visits S_rule at2 B_v refl) | inr p ↦ absurd (occurrences-apart S_v S_out refl p.1) ],
+)
 
 out-ready : Ready at3 S_out
-out-ready = (((2, omega arith, refl), evaluated-not at3 S_out refl), λ u label e. elim (S-edges u S_out label e)
-    [ inl p ↦ absurd (occurrences-apart S_out S_v refl p.1) | inr p ↦ subst (λ o. IsAtHand visits S_rule at3 o) (sym p.0) (is-at-hand visits S_rule at3 S_v refl) ])
+out-ready = (
+  ((2, omega arith, refl), evaluated-not at3 S_out refl),
+  λ u label e. elim (S-edges u S_out label e)
+      [ inl p ↦ absurd (occurrences-apart S_out S_v refl p.1) | inr p ↦ subst (λ o. IsAtHand visits S_rule at3 o) (sym p.0) (is-at-hand visits S_rule at3 S_v refl) ],
+)
 
 chosen0 : Chosen at0 (Eval A_i)
 chosen0 = evaluation A-ready (goals at0 (λ p. IsAtMost A_i p) (λ h. itself A_i) (v-waits at0 (evaluated-not at0 B_v refl) refl) (out-waits at0 (evaluated-not at0 S_v refl)))
@@ -163,8 +167,12 @@ abbrev class_of_B : VisitClass
 class_of_B = record { inherited = []; synthesized = attribute 0 ∷ [] }
 
 B-visit : IsReadyVisit symbols rules visits S_rule at1 2 1
-B-visit = (class_of_B, (omega arith, refl, (symbol 2, visits_of_B, refl, refl, refl)), all-of (λ a. IsEvaluated at1 (record { occ = 2; attr = a })) [] tt,
-    (1, class_of_B, omega arith, (symbol 2, visits_of_B, refl, refl, refl), λ e. numbers-apart 1 0 refl (ap length e)))
+B-visit = (
+  class_of_B,
+  (omega arith, refl, (symbol 2, visits_of_B, refl, refl, refl)),
+  all-of (λ a. IsEvaluated at1 (record { occ = 2; attr = a })) [] tt,
+  (1, class_of_B, omega arith, (symbol 2, visits_of_B, refl, refl, refl), λ e. numbers-apart 1 0 refl (ap length e)),
+)
 
 least-visit : (j w : ℕ) → IsReadyVisit symbols rules visits S_rule at1 j w → 2 ≤ j
 least-visit zero w (class, next, all, of_use) = absurd (let l = next.0 in omega (arith, l))

@@ -1,7 +1,7 @@
 -- The visits of the late inherited attribute's symbols, peeled from the last class.
-use Rattle.std.specs.Prelude.{Contains, All, Bool, true, false, IsTrue, IsFalse, IsSome, if◌then◌else◌, nat_eq, slice_get, slice_index, reverse, is_some, ◌*◌}
+use Rattle.std.specs.Prelude.{Contains, IsTrue, IsFalse, IsSome, if◌then◌else◌, nat_eq, slice_get, reverse, is_some, ◌*◌}
 use Rattle.std.specs.List.Sorted.{IsStrictlyIncreasing}
-use Rattle.std.proofs.Common.{◌≡◌, ℕ, zero, suc, ◌+◌, ◌<◌, ◌≤◌, ◌⊎◌, inl, inr, List, [], ◌∷◌, map, length, Option, Some, None, refl, arith, ap, sym, subst, ◌∙◌}
+use Rattle.std.proofs.Common.{◌≡◌, ℕ, zero, suc, ◌+◌, ◌⊎◌, inl, inr, List, [], ◌∷◌, map, Some, None, refl, arith, ap, sym, subst, ◌∙◌}
 use Rattle.std.proofs.lemmas.Option.{none-some}
 use Rattle.lido_base.specs.declared.ids.AttrId.{AttrId}
 use Rattle.lido_base.specs.declared.ids.SymId.{SymId}
@@ -14,13 +14,13 @@ use Rattle.flat_grammar.specs.declared.plan.VisitClass.{VisitClass}
 use Rattle.flat_grammar.specs.Rules.{attribute_at}
 use Rattle.flat_grammar.specs.WellFormed.{is_nonterminal}
 use Rattle.flat_grammar.specs.Dependencies.{IDS}
-use Rattle.flat_grammar.specs.Partition.{kind_of_class, HasKind, IsClosedSet, IsPeeled, IsInClass, IsClass, IsEarlier, AreVisits, AreAllVisits, PeelsAll}
+use Rattle.flat_grammar.specs.Partition.{kind_of_class, HasKind, IsClosedSet, IsPeeled, IsClass, IsEarlier, AreVisits, AreAllVisits, PeelsAll}
 use Rattle.flat_grammar.proofs.Lists.{held, contains-first, contains-later, contains-cons, contains-nil}
 use Rattle.flat_grammar.proofs.PartitionLemmas.{IsPeeled-grows}
 use Rattle.trials_of_grammar.specs.ListOfItems.{symbol}
-use Rattle.trials_of_grammar.specs.LateInherited.{attribute, v_attribute, i_attribute, out_attribute, symbols, S_v, S_out, A_i, B_v, S_rule, A_rule, B_rule, rules, visits_of_S, visits_of_A, visits_of_B, visits}
+use Rattle.trials_of_grammar.specs.LateInherited.{attribute, v_attribute, i_attribute, out_attribute, symbols, S_v, S_out, B_v, rules, visits}
 use Rattle.trials_of_grammar.proofs.Finite.{never, each-of, numbers-apart, kinds-apart}
-use Rattle.trials_of_grammar.proofs.TestedDependencies.{IsTestedRule, dependencies-tested}
+use Rattle.trials_of_grammar.proofs.TestedDependencies.{dependencies-tested}
 
 abbrev edges : FlatRule → List (Occ × Occ)
 edges r = if nat_eq r.name.0 10 then (B_v, S_v) ∷ (S_v, S_out) ∷ (B_v, S_out) ∷ [] else []
@@ -33,10 +33,13 @@ pair a b = (a, b)
 
 -- S.v comes before S.$out, and nothing else is induced
 pub induced-pairs : (x : SymId) (a b : AttrId) → IDS rules x a b → Contains (pairs x) (pair a.0 b.0)
-induced-pairs = dependencies-tested edges pairs rules
-    (record { direct = refl; induced = refl; transitive = refl; projected = refl },
-    (record { direct = refl; induced = refl; transitive = refl; projected = refl },
-    (record { direct = refl; induced = refl; transitive = refl; projected = refl }, tt)))
+induced-pairs = dependencies-tested edges pairs rules (
+  record { direct = refl; induced = refl; transitive = refl; projected = refl },
+  (
+    record { direct = refl; induced = refl; transitive = refl; projected = refl },
+    (record { direct = refl; induced = refl; transitive = refl; projected = refl }, tt),
+  ),
+)
 
 pub S-pair : (a b : AttrId) → IDS rules (symbol 0) a b → (a.0 ≡ 0) × (b.0 ≡ 1)
 S-pair a b h = go (contains-cons (pair 0 1) (pair a.0 b.0) [] (induced-pairs (symbol 0) a b h))
@@ -118,9 +121,10 @@ out-in b e = let same : attribute 1 ≡ b = λ i. record { 0 = sym e i } in
     subst (λ c. Contains (attribute 0 ∷ attribute 1 ∷ []) c) same (contains-later (attribute 0) (attribute 1) (attribute 1 ∷ []) (contains-first (attribute 1) []))
 
 S-closed : IsClosedSet symbols rules (symbol 0) (Peeled (symbol 0) 0) Synthesized (attribute 0 ∷ attribute 1 ∷ [])
-S-closed = each-of (Member (symbol 0) 0 (attribute 0 ∷ attribute 1 ∷ [])) (attribute 0 ∷ attribute 1 ∷ [])
-    (((v_attribute, refl, refl), λ b h. inr (out-in b (S-pair (attribute 0) b h).1)),
-    (((out_attribute, refl, refl), λ b h. absurd (numbers-apart 1 0 refl (S-pair (attribute 1) b h).0)), tt))
+S-closed = each-of (Member (symbol 0) 0 (attribute 0 ∷ attribute 1 ∷ [])) (attribute 0 ∷ attribute 1 ∷ []) (
+  ((v_attribute, refl, refl), λ b h. inr (out-in b (S-pair (attribute 0) b h).1)),
+  (((out_attribute, refl, refl), λ b h. absurd (numbers-apart 1 0 refl (S-pair (attribute 1) b h).0)), tt),
+)
 
 A-closed : IsClosedSet symbols rules (symbol 1) (Peeled (symbol 1) 1) Inherited (attribute 0 ∷ [])
 A-closed = each-of (Member (symbol 1) 1 (attribute 0 ∷ [])) (attribute 0 ∷ []) (((i_attribute, refl, refl), λ b h. absurd (A-none (attribute 0) b h)), tt)

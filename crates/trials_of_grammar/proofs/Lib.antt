@@ -10,3 +10,5 @@ pub mod CrossedUses
 pub mod LateInheritedVisits
 pub mod LateInheritedConstruction
 pub mod PlainGrammars
+pub mod FaultyItems
+pub mod LateInheritedRows

@@ -1,8 +1,6 @@
 -- The grammars without lists are well formed.
-use Rattle.std.specs.Prelude.{List, [], ◌∷◌, refl, ◌≡◌}
-use Rattle.std.proofs.Common.{arith, sym}
-use Rattle.flat_grammar.specs.declared.flat.FlatSymbol.{FlatSymbol}
-use Rattle.flat_grammar.specs.declared.flat.FlatRule.{FlatRule}
+use Rattle.std.specs.Prelude.{refl}
+use Rattle.std.proofs.Common.{arith}
 use Rattle.flat_grammar.specs.WellFormed.{IsWellFormed}
 use Rattle.trials_of_grammar.specs.ListOfItems.{symbol}
 use Rattle.trials_of_grammar.specs.LateInherited as late

@@ -1,6 +1,8 @@
 -- Written and flat trees of the list of items: (rTop (rItem 5) (rItem 6)), and ones in which something is wrong.
 use Rattle.std.specs.Prelude.{ℕ, pos, List, [], ◌∷◌, Option, Some, None, slice_get, option_and_then}
-use Rattle.lido_base.specs.Plain.{Plain, Int, Text}
+use Rattle.lido_base.specs.declared.value.BadKind.TheVariants.{Overflow}
+use Rattle.lido_base.specs.declared.value.Origin.{Origin}
+use Rattle.lido_base.specs.Plain.{Plain, Int, Text, Bad}
 use Rattle.lido_base.specs.Tree.{Tree, Node, Item, Child, Leaf}
 
 abbrev pub node : ℕ → Option ℕ → ℕ → List (Item Plain) → Node Plain
@@ -71,3 +73,17 @@ wrong_sums =
 
 abbrev pub in_table : List (List Plain) → ℕ → ℕ → Option Plain
 in_table rows n a = option_and_then (λ (row : List Plain). slice_get row a) (slice_get rows n)
+
+abbrev pub overflow : ℕ → ℕ → Origin
+overflow n comp = record { node = n; comp = comp; kind = Overflow }
+
+-- some instances have Bad values: $out and both n, which are written, and the first cell's $con1, which is not
+abbrev pub faulty : List (List Plain)
+faulty =
+    (Bad (overflow 1 2) ∷ [])
+    ∷ (Bad (overflow 0 1) ∷ [])
+    ∷ (Bad (overflow 1 2) ∷ Int (pos 5) ∷ [])
+    ∷ (Int (pos 6) ∷ [])
+    ∷ (Bad (overflow 2 2) ∷ Int (pos 6) ∷ [])
+    ∷ (Int (pos 0) ∷ [])
+    ∷ []

@@ -150,3 +150,11 @@ last_visit_missing = Eval A_i ∷ Visit 2 1 ∷ Eval S_v ∷ Eval S_out ∷ Leav
 -- the plan with another sequence for rS
 abbrev pub with_sequence : List PlanItem → List (List PlanItem)
 with_sequence seq = seq ∷ A_sequence ∷ B_sequence ∷ []
+
+-- the rows of induced dependencies: S.v comes before S.$out, which is bit 1 of row 0 of S
+abbrev pub induced_rows : List (List ℕ)
+induced_rows = (2 ∷ 0 ∷ []) ∷ (0 ∷ []) ∷ (0 ∷ []) ∷ []
+
+-- the bit is not set
+abbrev pub empty_rows : List (List ℕ)
+empty_rows = (0 ∷ 0 ∷ []) ∷ (0 ∷ []) ∷ (0 ∷ []) ∷ []

@@ -1,6 +1,6 @@
 //! Two children whose attributes cross: the partition makes a cycle.
 ghost use Rattle.flat_grammar.specs.WellFormed.{IsWellFormed};
-ghost use Rattle.flat_grammar.specs.Cycles.{IsCycle, IsCircular};
+ghost use Rattle.flat_grammar.specs.Cycles.{IsCycle, IsCircular, IsOrderedGrammar};
 ghost use Rattle.trials_of_grammar.specs.ListOfItems.{symbol};
 ghost use Rattle.trials_of_grammar.specs.CrossedUses.{symbols, rules, shapes, S_rule, circle, wrong_label, wrong_start};
 
@@ -13,6 +13,7 @@ pub fn well_formed_grammar()
 /// of the partition labelled as induced, nor when it begins at another vertex than the least one.
 pub fn cycle_with_its_labels()
     ensures met { IsCircular symbols rules 0 circle }
+    ensures not_ordered { ¬ IsOrderedGrammar symbols rules }
     ensures wrong_label { ¬ IsCycle symbols rules S_rule wrong_label }
     ensures wrong_start { ¬ IsCycle symbols rules S_rule wrong_start }
 {}

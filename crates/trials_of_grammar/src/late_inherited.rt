@@ -1,16 +1,23 @@
 //! An inherited attribute that nothing uses is evaluated first and handed on last.
 ghost use Rattle.std.specs.Prelude.{◌≡◌, [], ◌∷◌};
 ghost use Rattle.flat_grammar.specs.WellFormed.{IsWellFormed};
+ghost use Rattle.flat_grammar.specs.Dependencies.{AreInducedRows};
 ghost use Rattle.flat_grammar.specs.Partition.{AreAllVisits};
 ghost use Rattle.flat_grammar.specs.Construction.{AreConstructed};
 ghost use Rattle.flat_grammar.specs.SoundPlan.{IsSound, IsUnsound};
 ghost use Rattle.flat_grammar.specs.WholeOrder.{whole_order};
 ghost use Rattle.trials_of_grammar.specs.ListOfItems.{symbol};
-ghost use Rattle.trials_of_grammar.specs.LateInherited.{symbols, rules, shapes, visits, visits_of_S, visits_of_B, sequences, tree, with_sequence, no_such_child, evaluated_twice, visited_twice, visited_too_early, evaluated_too_early, left_too_early, last_visit_missing};
+ghost use Rattle.trials_of_grammar.specs.LateInherited.{symbols, rules, shapes, induced_rows, empty_rows, visits, visits_of_S, visits_of_B, sequences, tree, with_sequence, no_such_child, evaluated_twice, visited_twice, visited_too_early, evaluated_too_early, left_too_early, last_visit_missing};
 
 /// The grammar is well formed.
 pub fn well_formed_grammar()
     ensures { IsWellFormed symbols rules shapes (symbol 0) }
+{}
+
+/// S.v comes before S.$out, and nothing else is induced between two attributes of one symbol.
+pub fn rows_of_induced_dependencies()
+    ensures met { AreInducedRows symbols rules induced_rows }
+    ensures bit_missing { ¬ AreInducedRows symbols rules empty_rows }
 {}
 
 /// Each symbol has one visit: S gives v and $out, A takes i, B gives v.

@@ -4,9 +4,9 @@ ghost use Rattle.lido_base.specs.Tree.{IsTree};
 ghost use Rattle.flat_grammar.specs.WellFormed.{IsWellFormed};
 ghost use Rattle.flat_grammar.specs.FlatTrees.{IsFlatTree};
 ghost use Rattle.flat_grammar.specs.Fitting.{IsFitting, instances, text_cells};
-ghost use Rattle.flat_grammar.specs.FlatAttribution.{IsFlatAttribution};
+ghost use Rattle.flat_grammar.specs.FlatAttribution.{IsFlatAttribution, IsFaultyAt, IsLeastFault};
 ghost use Rattle.trials_of_grammar.specs.ListOfItems.{symbols, rules, shapes, root, list_shape, item_with_cell, goal_missing, goal_twice, cell_used_elsewhere};
-ghost use Rattle.trials_of_grammar.specs.ItemTrees.{two_items, two_cells, node_of_two, no_end, node_of_no_end, list_in_list, sums, wrong_sums, in_table};
+ghost use Rattle.trials_of_grammar.specs.ItemTrees.{two_items, two_cells, node_of_two, no_end, node_of_no_end, list_in_list, sums, wrong_sums, faulty, overflow, in_table};
 
 /// The grammar with the cells `$rTop`, `rTop$Item` and `rTop$` is well formed. It is not where a goal is missing, a goal is
 /// computed twice, or a cell stands in a rule that isn't its own.
@@ -39,4 +39,10 @@ pub fn fitting_tree()
 pub fn flat_attribution_of_sums()
     ensures met { IsFlatAttribution symbols rules [] [] two_cells node_of_two (in_table sums) }
     ensures element_forgotten { ¬ IsFlatAttribution symbols rules [] [] two_cells node_of_two (in_table wrong_sums) }
+{}
+
+/// The least fault is the least origin among the written attributes. An earlier one of a cell's attribute doesn't count.
+pub fn least_fault_of_written_attributes()
+    ensures met { IsLeastFault symbols rules two_cells (in_table faulty) (overflow 1 2) }
+    ensures not_written { ¬ IsFaultyAt symbols rules two_cells (in_table faulty) (overflow 0 1) }
 {}

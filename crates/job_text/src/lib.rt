@@ -1,0 +1,6 @@
+//! The job text: its sections, the words of the command line, and the generator of large jobs.
+#![tactic(auto)]
+
+mod cutting;
+
+pub use cutting::{CutFault, Sections, Span, cut};

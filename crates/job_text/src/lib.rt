@@ -2,5 +2,10 @@
 #![tactic(auto)]
 
 mod cutting;
+mod generator;
 
 pub use cutting::{CutFault, Sections, Span, cut};
+pub use generator::big;
+
+#[cfg(test)]
+mod tests;

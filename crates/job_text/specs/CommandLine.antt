@@ -1,5 +1,5 @@
 -- The rule of command lines: what is wrong with a word, which word decides, and the command of a line without a fault. Our own.
-use Rattle.std.specs.Prelude.{◌≡◌, ℕ, ◌<◌, List, map, take, filter, find, Bool, not, ◌&&◌, if◌then◌else◌, Option, Some, None, option_map, unwrap_or, slice_get, Result, Ok, Err}
+use Rattle.std.specs.Prelude.{◌≡◌, ℕ, ◌<◌, List, map, take, filter, find, false, not, ◌&&◌, if◌then◌else◌, Option, Some, None, option_map, unwrap_or, slice_get, Result, Ok, Err}
 use Rattle.std.specs.List.{list_any, enumerate_from}
 use Rattle.lido_base.specs.declared.kinds.WordKind.{WordKind}
 use Rattle.lido_base.specs.declared.kinds.WordKind.TheVariants.{Missing, Unknown, Repeated, Range}
@@ -9,6 +9,7 @@ use Rattle.job_text.specs.declared.forms.Form.{Form}
 use Rattle.job_text.specs.declared.forms.Form.TheVariants.{Count, Workers, Split, Min, Patience}
 use Rattle.job_text.specs.declared.command_line.Command.{Command}
 use Rattle.job_text.specs.declared.command_line.Command.TheVariants as command
+use Rattle.job_text.specs.declared.command_line.RunWords.{RunWords}
 use Rattle.job_text.specs.declared.command_line.WordsFault.{WordsFault}
 use Rattle.job_text.specs.declared.command_line.WordsFault.TheVariants as fault
 use Rattle.job_text.specs.Forms.{first_verb, has_form, number_of, is_outside, is_repeatable, is_needed, allowed}
@@ -34,15 +35,23 @@ fault_at words index = fault_in (allowed (first_verb words) index) (take index w
 unfoldable pub number_or : ℕ → Form → List (List ℕ) → ℕ
 number_or default form words = unwrap_or (option_map (number_of form) (find (has_form form) words)) default
 
+-- The number of the first word that has the form is in its range.
+abbrev pub IsInside : Form → List (List ℕ) → Type 0
+IsInside form words = (word : List ℕ) → find (has_form form) words ≡ Some word → is_outside form word ≡ false
+
 -- The indices of the words that name a symbol to split at.
 unfoldable pub splits : List (List ℕ) → List ℕ
 splits words = map (λ p. p.0) (filter (λ p. has_form Split p.1) (enumerate_from 0 words))
+
+-- What the words behind `run` say.
+abbrev pub run_words : List (List ℕ) → RunWords
+run_words words = record { workers = number_or 1 Workers words; split = splits words; min = number_or 1 Min words; patience = number_or 4 Patience words }
 
 -- The command that a line without a fault gives.
 abbrev pub command_of : Verb → List (List ℕ) → Command
 command_of verb.Check words = command.Check
 command_of verb.Order words = command.Order
-command_of verb.Run words = command.Run (record { workers = number_or 1 Workers words; split = splits words; min = number_or 1 Min words; patience = number_or 4 Patience words })
+command_of verb.Run words = command.Run (run_words words)
 command_of verb.Big words = command.Big (number_or 1 Count words) (number_or 1 Workers words)
 
 -- This is wrong at this index, and nothing at the earlier ones.

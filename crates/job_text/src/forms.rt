@@ -192,8 +192,15 @@ pub fn is_repeatable(form: Form) -> bool
 }
 
 /// Whether a word has to stand where the form may.
-pub fn is_needed(form: Form) -> bool
+fn is_needed(form: Form) -> bool
     ensures { result ≡ is_needed form }
 {
     matches!(form, Form::First | Form::Count)
+}
+
+/// Whether a word has to stand where one of the forms may.
+pub fn any_is_needed(forms: &[Form]) -> bool
+    ensures { result ≡ list_any is_needed forms.now }
+{
+    forms.iter().any(|form| is_needed(*form))
 }

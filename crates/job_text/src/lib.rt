@@ -6,7 +6,7 @@ mod cutting;
 mod forms;
 mod generator;
 
-pub use command_line::{Command, RunWords, WordsFault};
+pub use command_line::{Command, RunWords, WordsFault, words};
 pub use cutting::{CutFault, Sections, Span, cut};
 pub use generator::big;
 

@@ -1,4 +1,4 @@
-use Rattle.std.proofs.Common.{arith, ◌∙◌, sym}
+use Rattle.std.proofs.Common.{arith}
 use Rattle.job_text.proofs.NumberLemmas.{IsNextDigit, next_digit}
 use Rattle.job_text.proofs.forms.number.Goals as goal
 

@@ -1,5 +1,5 @@
 -- A word has one form at most: the first byte tells it.
-use Rattle.std.proofs.Common.{◌≡◌, ℕ, Bool, true, false, cond, List, [], ◌∷◌, length, drop, take, nat_eq, if◌then◌else◌, is_some, codes, get_or, bytes_eq, Some, None, ap, sym, ◌∙◌, refl, arith, eqb, inl, inr, ⊎_elim, ◌⊎◌, ◌≤◌}
+use Rattle.std.proofs.Common.{◌≡◌, ℕ, Bool, true, false, cond, List, [], ◌∷◌, length, drop, take, nat_eq, nat_le, if◌then◌else◌, is_some, codes, get_or, bytes_eq, Some, None, ap, sym, ◌∙◌, refl, arith, eqb, inl, inr, ⊎_elim, ◌⊎◌, ◌≤◌}
 use Rattle.std.specs.Char.{is_ascii_digit}
 use Rattle.std.specs.List.{starts_with}
 use Rattle.std.specs.Cmp.Lexicographic.{pointwise}
@@ -39,7 +39,7 @@ digit_front (b ∷ w) h = (and_parts _ _ (and_parts _ _ h).1).0
 digit_lead : (b : ℕ) → is_ascii_digit b ≡ true → lead b ≡ Count
 unfolding lead
 digit_lead b h =
-    let high : b ≤ 57 = leb-true b 57 (and_parts _ _ h).1 in
+    let high : b ≤ 57 = leb-true b 57 (and_parts (nat_le 48 b) (nat_le b 57) h).1 in
     let w : eqb 119 b ≡ false = ne_eqb 119 b (λ e. omega arith) in
     let s : eqb 115 b ≡ false = ne_eqb 115 b (λ e. omega arith) in
     let m : eqb 109 b ≡ false = ne_eqb 109 b (λ e. omega arith) in

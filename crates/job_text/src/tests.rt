@@ -1,4 +1,5 @@
 use super::*;
+use std::alloc::{AllocError, Global};
 use std::test::Fail;
 
 #[test]
@@ -110,5 +111,116 @@ fn jobs_are_generated(rt: HostRuntime) -> Result<(), Fail> {
     let one = big(alloc, 1)?;
     assert_eq!(rt; one.as_slice(), ONE);
     assert_eq!(rt; big(alloc, 50_000)?.len(), 5450483);
+    Ok(())
+}
+
+/// The words of a line, with a blank between each two; no word in an empty line.
+fn words_of(alloc: Global, line: &str) -> Result<Vec<String>, AllocError> {
+    let mut words = Vec::new(alloc);
+    if line.is_empty() {
+        return Ok(words);
+    }
+    for word in line.split(' ') {
+        words.push(String::from_str(alloc, word)?)?;
+    }
+    Ok(words)
+}
+
+/// A command or a fault in short.
+fn shown(alloc: Global, answer: &Result<Command, WordsFault>) -> Result<String, AllocError> {
+    match answer {
+        Ok(Command::Check) => String::from_str(alloc, "check"),
+        Ok(Command::Order) => String::from_str(alloc, "order"),
+        Ok(Command::Run(said)) => {
+            let (workers, min, patience) = (said.workers, said.min, said.patience);
+            let split = said.split.as_slice();
+            format!(in alloc; "run {workers} {split:?} {min} {patience}")
+        }
+        Ok(Command::Big { n, workers }) => format!(in alloc; "big {n} {workers}"),
+        Err(WordsFault::Words { index, kind }) => format!(in alloc; "{index} {kind:?}"),
+        Err(WordsFault::Memory) => String::from_str(alloc, "no memory"),
+    }
+}
+
+#[test]
+fn words_are_read(rt: HostRuntime) -> Result<(), Fail> {
+    let alloc = rt.alloc();
+    let rows: [(&str, &str); 67] = [
+        ("", "0 Missing"),
+        (" ", "0 Unknown"),
+        ("walk", "0 Unknown"),
+        ("Run", "0 Unknown"),
+        ("runs", "0 Unknown"),
+        ("--help", "0 Unknown"),
+        ("--version", "0 Unknown"),
+        ("check", "check"),
+        ("order", "order"),
+        ("check check", "1 Unknown"),
+        ("check workers=2", "1 Unknown"),
+        ("order x", "1 Unknown"),
+        ("run", "run 1 [] 1 4"),
+        ("run ", "1 Unknown"),
+        ("run x", "1 Unknown"),
+        ("run run", "1 Unknown"),
+        ("run 5", "1 Unknown"),
+        ("run workers", "1 Unknown"),
+        ("run workers=", "1 Unknown"),
+        ("run workers=x", "1 Unknown"),
+        ("run workers=+1", "1 Unknown"),
+        ("run workers=-1", "1 Unknown"),
+        ("run workers=1 ", "2 Unknown"),
+        ("run Workers=1", "1 Unknown"),
+        ("run workers=00000000001", "1 Unknown"),
+        ("run workers=0", "1 Range"),
+        ("run workers=1", "run 1 [] 1 4"),
+        ("run workers=16", "run 16 [] 1 4"),
+        ("run workers=0000000016", "run 16 [] 1 4"),
+        ("run workers=17", "1 Range"),
+        ("run workers=9999999999", "1 Range"),
+        ("run workers=4294967297", "1 Range"),
+        ("run min=0", "1 Range"),
+        ("run min=1048576", "run 1 [] 1048576 4"),
+        ("run min=1048577", "1 Range"),
+        ("run patience=0", "1 Range"),
+        ("run patience=1000", "run 1 [] 1 1000"),
+        ("run patience=1001", "1 Range"),
+        ("run min=1 min=2", "2 Repeated"),
+        ("run min=1 min=0", "2 Repeated"),
+        ("run min=1 min=x", "2 Unknown"),
+        ("run min=0 x", "1 Range"),
+        ("run workers=2 patience=3 workers=2", "3 Repeated"),
+        ("run patience=3 patience=3", "2 Repeated"),
+        ("run split=A split=_b9 split=A", "run 1 [1, 2, 3] 1 4"),
+        ("run split=", "1 Unknown"),
+        ("run split=9a", "1 Unknown"),
+        ("run split=a-b", "1 Unknown"),
+        (
+            "run split=a min=2 split=Z_ workers=3 split=a patience=5",
+            "run 3 [1, 3, 5] 2 5",
+        ),
+        ("big", "1 Missing"),
+        ("big x", "1 Unknown"),
+        ("big n=1", "1 Unknown"),
+        ("big workers=1", "1 Unknown"),
+        ("big 0", "1 Range"),
+        ("big 1", "big 1 1"),
+        ("big 50000", "big 50000 1"),
+        ("big 50001", "1 Range"),
+        ("big 0000000007 workers=3", "big 7 3"),
+        ("big 5 6", "2 Unknown"),
+        ("big 5 split=A", "2 Unknown"),
+        ("big 5 min=1", "2 Unknown"),
+        ("big 5 workers=0", "2 Range"),
+        ("big 5 workers=16", "big 5 16"),
+        ("big 5 workers=17", "2 Range"),
+        ("big 5 workers=2 workers=17", "3 Repeated"),
+        ("big 5 workers=2 x", "3 Unknown"),
+        ("big 50001 x", "1 Range"),
+    ];
+    for (line, want) in rows {
+        let words = words_of(alloc, line)?;
+        let got = shown(alloc, &super::words(alloc, &words))?;
+        assert_eq!(rt; got.as_str(), want, "at {line:?}");
+    }
     Ok(())
 }

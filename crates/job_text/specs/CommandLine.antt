@@ -64,6 +64,7 @@ pub record IsCommand (words : List (List ℕ)) (c : Command) : Type 0 where
   pub right : (k : ℕ) → fault_at words k ≡ None
   pub is : option_map (λ v. command_of v words) (first_verb words) ≡ Some c
 
+-- What the words of a command line give: a command, or the first fault.
 abbrev pub WordsOf : List (List ℕ) → Result Command WordsFault → Type 0
 WordsOf words (Ok c) = IsCommand words c
 WordsOf words (Err (fault.Words index kind)) = IsFirstFault words index kind

@@ -5,10 +5,6 @@ use Rattle.job_text.specs.declared.cutting.CutFault.{CutFault}
 use Rattle.job_text.specs.declared.cutting.CutFault.TheVariants.{NoPtg, NoTree}
 use Rattle.job_text.specs.Lines.{Says, IsFirst}
 
--- The most bytes that a job text may have.
-abbrev pub most : ℕ
-most = 8388608
-
 -- The specification is all before the first line `%%PTG`, the patterns are all behind it up to the first later line `%%TREE`, and
 -- the tree is all behind that.
 pub record IsCut (text : List ℕ) (s : Sections) : Type 0 where
@@ -28,6 +24,7 @@ pub record LacksTree (text : List ℕ) : Type 0 where
   pub ptg : IsFirst (codes "%%PTG") text 0 from to
   pub none : (f t : ℕ) → to < f → ¬ Says (codes "%%TREE") text f t
 
+-- What a job text gives: its sections, or the section line that it lacks.
 abbrev pub Cutting : List ℕ → Result Sections CutFault → Type 0
 Cutting text (Ok s) = IsCut text s
 Cutting text (Err NoPtg) = (from to : ℕ) → ¬ Says (codes "%%PTG") text from to

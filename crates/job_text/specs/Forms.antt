@@ -17,6 +17,7 @@ verb_of word =
     else if bytes_eq word (codes "big") then Some Big
     else None
 
+-- what the command line asks for, if its first word says it
 abbrev pub first_verb : List (List ℕ) → Option Verb
 first_verb words = option_and_then verb_of (slice_get words 0)
 
@@ -33,9 +34,11 @@ key Count = []
 unfoldable pub is_number : List ℕ → Bool
 is_number value = nat_lt 0 (length value) && nat_le (length value) 10 && list_all is_ascii_digit value
 
+-- an ASCII letter or an underscore
 abbrev pub is_letter : ℕ → Bool
 is_letter byte = is_ascii_alphabetic byte || byte == 95
 
+-- a letter, an underscore or a digit
 abbrev pub is_name_byte : ℕ → Bool
 is_name_byte byte = is_letter byte || is_ascii_digit byte
 
@@ -85,11 +88,12 @@ is_needed First = true
 is_needed Count = true
 is_needed _ = false
 
--- the forms that may stand at an index, the first word's being 0
+-- the forms that may stand at an index from 1 on, behind this first word
 abbrev pub after : Option Verb → ℕ → List Form
 after (Some Run) index = Workers ∷ Split ∷ Min ∷ Patience ∷ []
 after (Some Big) index = if index == 1 then Count ∷ [] else Workers ∷ []
 after _ index = []
 
+-- the forms that may stand at an index, the first word's being 0
 abbrev pub allowed : Option Verb → ℕ → List Form
 allowed verb index = if index == 0 then First ∷ [] else after verb index

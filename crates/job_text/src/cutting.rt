@@ -1,9 +1,10 @@
 //! The three sections of a job text.
 ghost use Rattle.std.specs.Prelude.{◌≡◌, ◌≤◌, ◌<◌, ◌+◌, ◌-◌, ℕ, IsTrue, ◌↔◌, length, slice_index, slice_range, IfSome, IfNone, IfOk, codes};
 ghost use Rattle.std.specs.Str.Lines.{strip_carriage_return};
+ghost use Rattle.lido_base.specs.Inputs.{most};
 ghost use Rattle.lido_base.specs.Phases.{IsThe};
 ghost use Rattle.job_text.specs.Lines.{line_feed, IsLineStart, EndsLine, Says, IsFirst};
-ghost use Rattle.job_text.specs.Cutting.{most, Cutting};
+ghost use Rattle.job_text.specs.Cutting.{Cutting};
 
 /// The bytes of a text from the place `from` up to, and without, the place `to`.
 #[derive(Clone, Copy, Debug, PartialEq, Eq)]
@@ -78,10 +79,10 @@ fn section_line(bytes: &[u8], start: usize, name: &[u8]) -> Option<Span>
 /// Cuts a job text at its section lines: the first line that is `%%PTG`, and the first later line that is `%%TREE`. A line is
 /// what stands between two line feeds, or from the start, or to the end of the text; one carriage return at its end doesn't
 /// count. The specification is all before the first of the two lines, the patterns are all between them, and the tree is all
-/// behind the second; the line feeds that end the two lines belong to no part. Takes no memory, and time in proportion to the
-/// length.
+/// behind the second; the line feeds that end the two lines belong to no part. The text has at most 8,388,608 bytes. Takes no
+/// memory, and time in proportion to the length.
 pub fn cut(bytes: &[u8]) -> Result<Sections, CutFault>
-    requires { length bytes.now ≤ 8388608 }
+    requires { length bytes.now ≤ most }
     ensures sections { IsThe (Cutting bytes.now) result }
     ensures spec { IfOk result (λ s. s.spec.from ≤ s.spec.to) }
     ensures ptg { IfOk result (λ s. s.ptg.from ≤ s.ptg.to) }

@@ -1,9 +1,9 @@
 //! The words of the command line.
-ghost use Rattle.std.specs.Prelude.{◌≡◌, ℕ, ◌≤◌, ◌<◌, ◌^◌, length, List, map, string_bytes, string_len, take, slice_get, find, Some, None, IsTrue, IfSome, IfNone, IfOk};
+ghost use Rattle.std.specs.Prelude.{◌≡◌, ℕ, ◌<◌, map, string_bytes, find, None, IsTrue, IfSome, IfNone, IfOk};
 ghost use Rattle.std.specs.Option.{option_copied};
 ghost use Rattle.lido_base.specs.Phases.{Gives};
 ghost use Rattle.job_text.specs.declared.forms.Form.{Form};
-ghost use Rattle.job_text.specs.Forms.{first_verb, has_form, number_of, most_of, is_outside, allowed};
+ghost use Rattle.job_text.specs.Forms.{has_form, most_of, allowed};
 ghost use Rattle.job_text.specs.CommandLine.{fault_of, fault_at, number_or, IsInside, splits, run_words, IsFirstFault, WordsOf};
 
 use crate::forms::{

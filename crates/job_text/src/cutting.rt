@@ -1,9 +1,9 @@
 //! The three sections of a job text.
-ghost use Rattle.std.specs.Prelude.{◌≡◌, ◌≤◌, ◌<◌, ◌+◌, ◌-◌, ℕ, IsTrue, ◌↔◌, length, slice_index, slice_range, IfSome, IfNone, IfOk, codes};
+ghost use Rattle.std.specs.Prelude.{◌≡◌, ◌≤◌, ◌+◌, ℕ, length, IfSome, IfNone, IfOk};
 ghost use Rattle.std.specs.Str.Lines.{strip_carriage_return};
 ghost use Rattle.lido_base.specs.Inputs.{most};
 ghost use Rattle.lido_base.specs.Phases.{IsThe};
-ghost use Rattle.job_text.specs.Lines.{line_feed, IsLineStart, EndsLine, Says, IsFirst};
+ghost use Rattle.job_text.specs.Lines.{IsLineStart, EndsLine, Says, IsFirst};
 ghost use Rattle.job_text.specs.Cutting.{Cutting};
 
 /// The bytes of a text from the place `from` up to, and without, the place `to`.

@@ -1,9 +1,9 @@
 //! The forms that the words of a command line have.
-ghost use Rattle.std.specs.Prelude.{◌≡◌, ◌≤◌, ◌<◌, ◌+◌, ◌-◌, ◌^◌, IsTrue, length, List, map, string_bytes, drop, option_and_then, slice_get, find};
+ghost use Rattle.std.specs.Prelude.{◌≡◌, ◌<◌, IsTrue, map, string_bytes};
 ghost use Rattle.std.specs.Char.{is_ascii_digit};
 ghost use Rattle.std.specs.List.{list_all, list_any};
 ghost use Rattle.std.specs.Str.Parse.{digits_value};
-ghost use Rattle.job_text.specs.Forms.{verb_of, first_verb, key, is_letter, is_name_byte, is_number, is_identifier, is_value, has_form, number_of, most_of, is_outside, is_repeatable, is_needed, allowed, after};
+ghost use Rattle.job_text.specs.Forms.{verb_of, first_verb, key, is_letter, is_name_byte, is_number, is_identifier, is_value, has_form, number_of, most_of, is_outside, is_repeatable, is_needed};
 
 /// What the first word asks for.
 #[derive(Clone, Copy, Debug, PartialEq, Eq)]

@@ -1,0 +1,5 @@
+mod FaultLemmas
+mod FormLemmas
+mod NumberLemmas
+mod RepeatLemmas
+mod WordLemmas

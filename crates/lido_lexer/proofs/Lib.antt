@@ -1,0 +1,12 @@
+pub mod Lists
+pub mod Options
+pub mod Tests
+pub mod Runs
+pub mod Values
+pub mod SignsLemmas
+pub mod Ends
+pub mod GapsLemmas
+pub mod PartsLemmas
+pub mod FrontsLemmas
+pub mod One
+pub mod Reading

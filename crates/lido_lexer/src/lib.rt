@@ -1,0 +1,18 @@
+//! Tokens of LIDO and PTG: what they are, and how a text is cut into them.
+#![tactic(auto)]
+
+mod bytes;
+mod gaps;
+mod keyword;
+mod lexeme;
+mod lexer;
+mod numbers;
+mod quoted;
+mod sign;
+mod token;
+mod words;
+
+pub use keyword::Keyword;
+pub use lexer::lex;
+pub use sign::Sign;
+pub use token::{LexFault, Token, TokenKind};

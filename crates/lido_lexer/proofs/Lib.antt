@@ -3,6 +3,7 @@ pub mod Options
 pub mod Tests
 pub mod Runs
 pub mod Values
+pub mod KeywordsLemmas
 pub mod SignsLemmas
 pub mod Ends
 pub mod GapsLemmas

@@ -107,7 +107,7 @@ const KEYWORDS: [Keyword; 31] = [
 
 impl Keyword {
     /// The bytes of the keyword.
-    fn spelling(self) -> &'static [u8]
+    pub fn spelling(self) -> &'static [u8]
         ensures { result.now ≡ keyword_spelling self }
     {
         match self {

@@ -4,11 +4,14 @@
 mod bytes;
 mod gaps;
 mod keyword;
+pub mod laws;
 mod lexeme;
 mod lexer;
 mod numbers;
 mod quoted;
 mod sign;
+#[cfg(test)]
+mod tests;
 mod token;
 mod words;
 

@@ -102,7 +102,7 @@ const SIGNS: [Sign; 29] = [
 
 impl Sign {
     /// The bytes of the sign.
-    fn spelling(self) -> &'static [u8]
+    pub fn spelling(self) -> &'static [u8]
         ensures bytes { result.now ≡ sign_spelling self }
         ensures some { 0 < length result.now }
     {

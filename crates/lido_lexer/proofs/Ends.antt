@@ -5,7 +5,7 @@ use Rattle.std.proofs.lemmas.List.{length-append, drop_all}
 use Rattle.std.proofs.lemmas.Bool.Decides.{nat_tests}
 use Rattle.lido_lexer.specs.Gaps.{EndsFirst}
 use Rattle.lido_lexer.proofs.Lists.{head_of, tail_of}
-use Rattle.lido_lexer.proofs.Tests.{same, differ}
+use Rattle.lido_lexer.proofs.BytesLemmas.{same, differ}
 
 module _ (s t : ℕ) where
   -- s and t stand nowhere side by side

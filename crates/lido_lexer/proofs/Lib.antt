@@ -1,6 +1,6 @@
 pub mod Lists
 pub mod Options
-pub mod Tests
+pub mod BytesLemmas
 pub mod Runs
 pub mod Values
 pub mod KeywordsLemmas

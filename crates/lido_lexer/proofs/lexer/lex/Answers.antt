@@ -4,7 +4,7 @@ use Rattle.lido_lexer.specs.Lexing.{HasText, IsInOrder, Placed, place}
 use Rattle.lido_lexer.specs.declared.token.Token.{Token}
 use Rattle.lido_lexer.proofs.Reading.{IsReading, reading_start, reading_more, reading_end, refused, gains_none, gains_more, gains_length, ids_more, order_more, order_within}
 use Rattle.lido_lexer.proofs.One.{lexed_is}
-use Rattle.lido_lexer.proofs.Tests.{empty_of, nonempty_of}
+use Rattle.lido_lexer.proofs.BytesLemmas.{empty_of, nonempty_of}
 use Rattle.lido_lexer.proofs.lexer.lex.Goals as goal
 
 pub loop-left-init : goal.loop-left-init

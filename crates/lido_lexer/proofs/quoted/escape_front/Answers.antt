@@ -2,7 +2,7 @@ use Rattle.std.proofs.Common.{◌<◌, ℕ, List, length, ap, sym, ◌∙◌, su
 use Rattle.std.proofs.lemmas.List.{length-drop}
 use Rattle.lido_lexer.specs.Bytes.{octal_front, value_in}
 use Rattle.lido_lexer.proofs.Runs.{octal_within}
-use Rattle.lido_lexer.proofs.Tests.{some_of, above}
+use Rattle.lido_lexer.proofs.BytesLemmas.{some_of, above}
 use Rattle.lido_lexer.proofs.PartsLemmas.{octal_part, escape_part, large_no_part}
 use Rattle.lido_lexer.proofs.quoted.escape_front.Goals as goal
 

@@ -1,0 +1,13 @@
+pub mod Lists
+pub mod Options
+pub mod BytesLemmas
+pub mod Runs
+pub mod Values
+pub mod KeywordsLemmas
+pub mod SignsLemmas
+pub mod Ends
+pub mod GapsLemmas
+pub mod PartsLemmas
+pub mod FrontsLemmas
+pub mod One
+pub mod Reading

@@ -1,0 +1,21 @@
+//! Tokens of LIDO and PTG: what they are, and how a text is cut into them.
+#![tactic(auto)]
+
+mod bytes;
+mod gaps;
+mod keyword;
+pub mod laws;
+mod lexeme;
+mod lexer;
+mod numbers;
+mod quoted;
+mod sign;
+#[cfg(test)]
+mod tests;
+mod token;
+mod words;
+
+pub use keyword::Keyword;
+pub use lexer::lex;
+pub use sign::Sign;
+pub use token::{LexFault, Token, TokenKind};

@@ -10,17 +10,17 @@ use Rattle.std.proofs.lemmas.List.Folds.{list_any-append}
 use Rattle.std.proofs.lemmas.Bool.Decides.{eqb_tells}
 use Rattle.std.proofs.Math.Nat.{eq-or-lt_of_le}
 use Rattle.std.proofs.Math.Bool.{or-false, or-true}
-use Rattle.lido_base.specs.Tree.{Tree, Node, Item, Child, Leaf, IsTree, child_number, parent_of, place_of, rule_at, items_of, item_at, children, ancestors, contains, continues, is_just, and_above, unroll, places, with_item, with_node}
-use Rattle.lido_base.proofs.TreeLemmas.{children_behind, parent_before, ancestors-root, ancestors-child, test-contains, contains-test, contains-cons}
+use Rattle.lido_base.specs.Tree.{Tree, Node, Item, Child, Leaf, IsTree, child_number, parent_of, place_of, items_of, item_at, children, ancestors, contains, continues, is_just, and_above, unroll, places, with_item, with_node}
+use Rattle.lido_base.proofs.TreeLemmas.{children_behind, parent_before, ancestors-root, ancestors-child, test-contains, contains-cons}
 use Rattle.tree_store.specs.Growth.{IsOpen, IsNext, IsEmptyOrTree}
 
 -- an element behind the others changes nothing at these
-get_before : {X : Type 0} (xs : List X) (x : X) (n : ℕ) → n < length xs → slice_get (xs ++ x ∷ []) n ≡ slice_get xs n
+pub get_before : {X : Type 0} (xs : List X) (x : X) (n : ℕ) → n < length xs → slice_get (xs ++ x ∷ []) n ≡ slice_get xs n
 get_before [] x n h = absurd (omega arith)
 get_before (y ∷ xs) x zero h = refl
 get_before (y ∷ xs) x (suc n) h = get_before xs x n (omega arith)
 
-get_last : {X : Type 0} (xs : List X) (x : X) (n : ℕ) → n ≡ length xs → slice_get (xs ++ x ∷ []) n ≡ Some x
+pub get_last : {X : Type 0} (xs : List X) (x : X) (n : ℕ) → n ≡ length xs → slice_get (xs ++ x ∷ []) n ≡ Some x
 get_last [] x zero h = refl
 get_last [] x (suc n) h = absurd (omega arith)
 get_last (y ∷ xs) x zero h = absurd (omega arith)
@@ -40,39 +40,39 @@ module _ {V : Type 0} where
   length-with_item (node ∷ t) zero x = refl
   length-with_item (node ∷ t) (suc p) x = ap suc (length-with_item t p x)
 
-  parent_of-with_item : (t : Tree V) (p : ℕ) (x : Item V) (n : ℕ) → parent_of (with_item t p x) n ≡ parent_of t n
+  pub parent_of-with_item : (t : Tree V) (p : ℕ) (x : Item V) (n : ℕ) → parent_of (with_item t p x) n ≡ parent_of t n
   parent_of-with_item [] p x n = refl
   parent_of-with_item (node ∷ t) zero x zero = refl
   parent_of-with_item (node ∷ t) zero x (suc n) = refl
   parent_of-with_item (node ∷ t) (suc p) x zero = refl
   parent_of-with_item (node ∷ t) (suc p) x (suc n) = parent_of-with_item t p x n
 
-  place_of-with_item : (t : Tree V) (p : ℕ) (x : Item V) (n : ℕ) → place_of (with_item t p x) n ≡ place_of t n
+  pub place_of-with_item : (t : Tree V) (p : ℕ) (x : Item V) (n : ℕ) → place_of (with_item t p x) n ≡ place_of t n
   place_of-with_item [] p x n = refl
   place_of-with_item (node ∷ t) zero x zero = refl
   place_of-with_item (node ∷ t) zero x (suc n) = refl
   place_of-with_item (node ∷ t) (suc p) x zero = refl
   place_of-with_item (node ∷ t) (suc p) x (suc n) = place_of-with_item t p x n
 
-  items_of-with_item : (t : Tree V) (p : ℕ) (x : Item V) → p < length t → items_of (with_item t p x) p ≡ items_of t p ++ x ∷ []
+  pub items_of-with_item : (t : Tree V) (p : ℕ) (x : Item V) → p < length t → items_of (with_item t p x) p ≡ items_of t p ++ x ∷ []
   items_of-with_item [] p x h = absurd (omega arith)
   items_of-with_item (node ∷ t) zero x h = refl
   items_of-with_item (node ∷ t) (suc p) x h = items_of-with_item t p x (omega arith)
 
-  items_of-with_item_other : (t : Tree V) (p : ℕ) (x : Item V) (n : ℕ) → (p ≡ n → ⊥) → items_of (with_item t p x) n ≡ items_of t n
+  pub items_of-with_item_other : (t : Tree V) (p : ℕ) (x : Item V) (n : ℕ) → (p ≡ n → ⊥) → items_of (with_item t p x) n ≡ items_of t n
   items_of-with_item_other [] p x n h = refl
   items_of-with_item_other (node ∷ t) zero x zero h = absurd (h refl)
   items_of-with_item_other (node ∷ t) zero x (suc n) h = refl
   items_of-with_item_other (node ∷ t) (suc p) x zero h = refl
   items_of-with_item_other (node ∷ t) (suc p) x (suc n) h = items_of-with_item_other t p x n (λ e. h (ap suc e))
 
-  parent_of_before : (t : Tree V) (node : Node V) (n : ℕ) → n < length t → parent_of (t ++ node ∷ []) n ≡ parent_of t n
+  pub parent_of_before : (t : Tree V) (node : Node V) (n : ℕ) → n < length t → parent_of (t ++ node ∷ []) n ≡ parent_of t n
   parent_of_before t node n h = rw (get_before t node n h) refl
 
   place_of_before : (t : Tree V) (node : Node V) (n : ℕ) → n < length t → place_of (t ++ node ∷ []) n ≡ place_of t n
   place_of_before t node n h = rw (get_before t node n h, place_of) refl
 
-  parent_of_last : (t : Tree V) (node : Node V) (n : ℕ) → n ≡ length t → parent_of (t ++ node ∷ []) n ≡ node.parent
+  pub parent_of_last : (t : Tree V) (node : Node V) (n : ℕ) → n ≡ length t → parent_of (t ++ node ∷ []) n ≡ node.parent
   parent_of_last t node n h = rw (get_last t node n h) refl
 
   place_of_last : (t : Tree V) (node : Node V) (n : ℕ) → n ≡ length t → place_of (t ++ node ∷ []) n ≡ node.place
@@ -82,7 +82,7 @@ module _ {V : Type 0} where
   parent_of_past t n h = rw (slice_get_past t n h) refl
 
   -- a node without items behind the others changes no items
-  items_of-append : (t : Tree V) (node : Node V) → node.items ≡ [] → (n : ℕ) → items_of (t ++ node ∷ []) n ≡ items_of t n
+  pub items_of-append : (t : Tree V) (node : Node V) → node.items ≡ [] → (n : ℕ) → items_of (t ++ node ∷ []) n ≡ items_of t n
   items_of-append [] node e zero = e
   items_of-append [] node e (suc n) = refl
   items_of-append (m ∷ t) node e zero = refl
@@ -100,7 +100,7 @@ module _ {V : Type 0} where
       go None e above = refl
       go (Some p) e above = let b = parent_before t tree n p e in ap (λ ps. p ∷ ps) (above p (omega arith))
 
-  ancestors_same : (s t : Tree V) → IsTree t → ((m : ℕ) → m < length t → parent_of s m ≡ parent_of t m) → (n : ℕ) → n < length t → ancestors s n ≡ ancestors t n
+  pub ancestors_same : (s t : Tree V) → IsTree t → ((m : ℕ) → m < length t → parent_of s m ≡ parent_of t m) → (n : ℕ) → n < length t → ancestors s n ≡ ancestors t n
   unfolding ancestors
   ancestors_same s t tree same n h = climb_same s t tree same n n h
 
@@ -136,13 +136,13 @@ IsStrictlyIncreasing-push xs y rises below = λ k h. go k h (cases_lt (k + 1) (l
 
 -- a node of this rule and below p is added
 module _ {V : Type 0} (t : Tree V) (tree : IsTree t) (rule p : ℕ) (open_p : IsOpen t p) where
-  abbrev with_child : Tree V
+  abbrev pub with_child : Tree V
   with_child = with_item t p (Child (length t))
 
-  abbrev added : Node V
+  abbrev pub added : Node V
   added = record { rule = rule; parent = Some p; place = places t p + 1; items = [] }
 
-  abbrev grown : Tree V
+  abbrev pub grown : Tree V
   grown = with_child ++ added ∷ []
 
   inside : p < length t
@@ -151,31 +151,31 @@ module _ {V : Type 0} (t : Tree V) (tree : IsTree t) (rule p : ℕ) (open_p : Is
   length-child : length with_child ≡ length t
   length-child = length-with_item t p (Child (length t))
 
-  length-grown : length grown ≡ length t + 1
+  pub length-grown : length grown ≡ length t + 1
   length-grown = length-append with_child (added ∷ []) ∙ ap (λ n. n + 1) length-child
 
-  parent_of-grown : (n : ℕ) → n < length t → parent_of grown n ≡ parent_of t n
+  pub parent_of-grown : (n : ℕ) → n < length t → parent_of grown n ≡ parent_of t n
   parent_of-grown n h = parent_of_before with_child added n (omega (arith, length-child)) ∙ parent_of-with_item t p (Child (length t)) n
 
-  place_of-grown : (n : ℕ) → n < length t → place_of grown n ≡ place_of t n
+  pub place_of-grown : (n : ℕ) → n < length t → place_of grown n ≡ place_of t n
   place_of-grown n h = place_of_before with_child added n (omega (arith, length-child)) ∙ place_of-with_item t p (Child (length t)) n
 
-  parent_of-added : parent_of grown (length t) ≡ Some p
+  pub parent_of-added : parent_of grown (length t) ≡ Some p
   parent_of-added = parent_of_last with_child added (length t) (sym length-child)
 
-  place_of-added : place_of grown (length t) ≡ places t p + 1
+  pub place_of-added : place_of grown (length t) ≡ places t p + 1
   place_of-added = place_of_last with_child added (length t) (sym length-child)
 
-  items_of-parent : items_of grown p ≡ items_of t p ++ Child (length t) ∷ []
+  pub items_of-parent : items_of grown p ≡ items_of t p ++ Child (length t) ∷ []
   items_of-parent = items_of-append with_child added refl p ∙ items_of-with_item t p (Child (length t)) inside
 
-  items_of-other : (n : ℕ) → (p ≡ n → ⊥) → items_of grown n ≡ items_of t n
+  pub items_of-other : (n : ℕ) → (p ≡ n → ⊥) → items_of grown n ≡ items_of t n
   items_of-other n other = items_of-append with_child added refl n ∙ items_of-with_item_other t p (Child (length t)) n other
 
-  children-parent : children grown p ≡ children t p ++ length t ∷ []
+  pub children-parent : children grown p ≡ children t p ++ length t ∷ []
   children-parent = ap (filter_map child_number) items_of-parent ∙ filter_map-append child_number (items_of t p) (Child (length t) ∷ [])
 
-  children-other : (n : ℕ) → (p ≡ n → ⊥) → children grown n ≡ children t n
+  pub children-other : (n : ℕ) → (p ≡ n → ⊥) → children grown n ≡ children t n
   children-other n other = ap (filter_map child_number) (items_of-other n other)
 
   -- a test that c is a node whose parent is n
@@ -233,7 +233,7 @@ module _ {V : Type 0} (t : Tree V) (tree : IsTree t) (rule p : ℕ) (open_p : Is
       go (inl same) = subst (λ m. IsStrictlyIncreasing (children grown m)) same.1 at_parent
       go (inr other) = rw (children-other n other.1) (tree.children_ascend n)
 
-  ancestors-grown : (n : ℕ) → n < length t → ancestors grown n ≡ ancestors t n
+  pub ancestors-grown : (n : ℕ) → n < length t → ancestors grown n ≡ ancestors t n
   ancestors-grown = ancestors_same grown t tree parent_of-grown
 
   continues-grown : (n : ℕ) (o : Option ℕ) → n < length t → continues grown n o ≡ continues t n o

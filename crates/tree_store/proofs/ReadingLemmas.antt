@@ -1,11 +1,10 @@
 -- What readers of a tree's nodes can rely on.
-use Rattle.std.specs.Prelude.{Contains, IsTrue, ◌↔◌, slice_get}
+use Rattle.std.specs.Prelude.{Contains, IsTrue, slice_get, IsSome}
 use Rattle.std.proofs.Common.{◌≡◌, ℕ, zero, suc, ◌+◌, ◌<◌, List, [], ◌∷◌, length, Option, Some, None, refl, ap, sym, ◌∙◌, arith, add-one}
 use Rattle.std.proofs.lemmas.Bool.{lt-ltb, eq-eqb}
-use Rattle.lido_base.specs.Tree.{Tree, Node, Item, Child, Leaf, IsTree, child_number, parent_of, place_of, items_of, item_at, children, continues, contains}
-use Rattle.lido_base.proofs.TreeLemmas.{children_behind, contains-test, parent_before}
+use Rattle.lido_base.specs.Tree.{Tree, Item, Child, Leaf, IsTree, child_number, parent_of, place_of, items_of, item_at, children, continues}
+use Rattle.lido_base.proofs.TreeLemmas.{children_behind, contains-test}
 use Rattle.std.specs.Prelude.{filter_map}
-use Rattle.tree_store.specs.Growth.{IsEmptyOrTree}
 use Rattle.tree_store.proofs.GrowthLemmas.{Contains-child}
 
 -- the item of a child is somewhere
@@ -14,6 +13,11 @@ child_item [] c m = absurd (omega (arith, m.1))
 child_item (Leaf v ∷ items) c m = let later = child_item items c m in (suc later.0, later.1)
 child_item (Child d ∷ items) c (zero, h, e) = (zero, ap (λ x. Some (Child x)) e)
 child_item (Child d ∷ items) c (suc k, h, e) = let later = child_item items c (k, (omega arith), e) in (suc later.0, later.1)
+
+-- what an option that is one holds
+pub there_is : {X : Type 0} (o : Option X) → IsSome o → (x : X) × (o ≡ Some x)
+there_is None e = cc
+there_is (Some x) e = (x, refl)
 
 module _ {V : Type 0} (t : Tree V) where
   pub item_inside : (n place : ℕ) (x : Item V) → item_at t n place ≡ Some x → n < length t
@@ -55,7 +59,3 @@ module _ {V : Type 0} (t : Tree V) where
     pub child_behind : (n place c : ℕ) → item_at t n place ≡ Some (Child c) → (n < c) × (c < length t)
     child_behind n zero c e = cc
     child_behind n (suc k) c e = children_behind t tree n c (Contains-child (items_of t n) k c e)
-
--- a child of a table that is empty or a tree stands behind its parent
-pub child_behind_it : {V : Type 0} (t : Tree V) → IsEmptyOrTree t → (n place c : ℕ) → item_at t n place ≡ Some (Child c) → (n < c) × (c < length t)
-child_behind_it t tree n place c e = let h = item_inside t n place (Child c) e in child_behind t (tree (omega arith)) n place c e

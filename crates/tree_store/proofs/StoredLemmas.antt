@@ -7,11 +7,10 @@ use Rattle.std.proofs.lemmas.Option.{slice_get-map, slice_get_within, slice_get-
 use Rattle.lido_base.specs.declared.ids.NodeId.{NodeId}
 use Rattle.lido_base.specs.declared.ids.RuleId.{RuleId}
 use Rattle.lido_base.specs.declared.value.Value.{Value}
-use Rattle.lido_base.specs.Tree.{Tree, IsTree, Item, Child, Leaf, item_at, items_of, parent_of, place_of, with_item, with_node, places}
+use Rattle.lido_base.specs.Tree.{Tree, IsTree, Item, Child, item_at, items_of, parent_of, place_of, with_item, with_node, places}
 use Rattle.lido_base.proofs.TreeLemmas.{parent_before}
 use Rattle.tree_store.specs.declared.tree.StoredNode.{StoredNode}
 use Rattle.tree_store.specs.declared.tree.StoredItem.{StoredItem}
-use Rattle.tree_store.specs.declared.tree.StoredItem.TheVariants as stored
 use Rattle.tree_store.specs.Stored.{node_of, number_of, item_of, table}
 use Rattle.tree_store.specs.Growth.{IsNext, IsEmptyOrTree}
 use Rattle.tree_store.proofs.GrowthLemmas.{open_in}
@@ -109,31 +108,6 @@ push_first xs ys t rule o node view e pushed rule_is parent_is place_is items_is
   where
     same : node_of node ≡ record { rule = rule.0; parent = None; place = 0; items = [] }
     same = rw (rule_is, parent_is, place_is, items_is) refl
-
--- a stored item that is a child is a node, and one that is a terminal is none
-pub child_number_is : (m : ℕ) (c : NodeId) (x : StoredItem) → Child m ≡ item_of x → x ≡ stored.Node c → m ≡ c.0
-child_number_is m c x e is = one (e ∙ ap item_of is)
-  where
-    one : Child m ≡ item_of (stored.Node c) → m ≡ c.0
-    one e = cc
-
-pub child_no_terminal : (m : ℕ) (v : Value) (x : StoredItem) → Child m ≡ item_of x → x ≡ stored.Terminal v → ⊥
-child_no_terminal m v x e is = none (e ∙ ap item_of is)
-  where
-    none : Child m ≡ item_of (stored.Terminal v) → ⊥
-    none e = cc
-
-pub terminal_is : (v w : Value) (x : StoredItem) → Leaf v ≡ item_of x → x ≡ stored.Terminal w → v ≡ w
-terminal_is v w x e is = one (e ∙ ap item_of is)
-  where
-    one : Leaf v ≡ item_of (stored.Terminal w) → v ≡ w
-    one e = cc
-
-pub terminal_no_child : (v : Value) (c : NodeId) (x : StoredItem) → Leaf v ≡ item_of x → x ≡ stored.Node c → ⊥
-terminal_no_child v c x e is = none (e ∙ ap item_of is)
-  where
-    none : Leaf v ≡ item_of (stored.Node c) → ⊥
-    none e = cc
 
 module _ (t : Tree Value) (tree : IsEmptyOrTree t) (n : ℕ) (inside : n < length t) where
   there : IsTree t

@@ -9,3 +9,6 @@ mod trees;
 pub use fault::TreeFault;
 pub use tree::Tree;
 pub use trees::{Split, Trees};
+
+#[cfg(test)]
+mod tests;

@@ -1,5 +1,5 @@
 //! The table of a tree's nodes.
-ghost use Rattle.std.specs.Prelude.{◌≡◌, ◌+◌, ◌-◌, ◌<◌, ◌≤◌, ◌^◌, ◌↔◌, [], ◌∷◌, ◌++◌, length, IsNone, IfSome, IfOk, OnOk, OnErr, Some, slice_get, vec_len, vec_capacity};
+ghost use Rattle.std.specs.Prelude.{◌≡◌, ◌+◌, ◌-◌, ◌<◌, ◌≤◌, ◌^◌, ◌↔◌, [], ◌∷◌, ◌++◌, length, IsNone, IsSome, IfSome, IfOk, OnOk, OnErr, Some, slice_get, vec_len, vec_capacity};
 ghost use Rattle.std.specs.Option.{ForSome};
 ghost use Rattle.lido_base.specs.Tree.{rule_at, parent_of, place_of, places, item_at, with_item, with_node, IsNode, IsTree, Child, Leaf};
 ghost use Rattle.tree_store.specs.Growth.{IsOpen, IsNext, IsTerminal};
@@ -82,6 +82,7 @@ impl Tree {
         requires few_items { ForSome parent (λ p. places self.old p.0 < 2 ^ 32 - 1) }
         ensures number { IfOk result (λ n. n.0 ≡ length self.old) }
         ensures added { OnOk result (self.new ≡ with_node self.old rule.0 (number_of parent)) }
+        ensures tree { OnOk result (IsTree self.new) }
         ensures refused { OnErr result (self.new ≡ self.old) }
     {
         self.nodes.reserve(1)?;
@@ -105,6 +106,7 @@ impl Tree {
         requires in_preorder { IsOpen self.old parent.0 }
         requires few_items { places self.old parent.0 < 2 ^ 32 - 1 }
         ensures added { OnOk result (self.new ≡ with_item self.old parent.0 (Leaf value)) }
+        ensures tree { OnOk result (IsTree self.new) }
         ensures refused { OnErr result (self.new ≡ self.old) }
     {
         push_item(&mut self.nodes, parent, StoredItem::Terminal(value))?;
@@ -153,7 +155,7 @@ impl Tree {
         ensures behind { n.0 < result.0 }
         ensures inside { result.0 < length self.now }
     {
-        match self.nodes[n.0 as usize].items[place as usize - 1] {
+        match self.item(n, place) {
             StoredItem::Node(c) => c,
             StoredItem::Terminal(_) => unreachable!(),
         }
@@ -164,9 +166,18 @@ impl Tree {
         requires { IsTerminal self.now n.0 place }
         ensures { item_at self.now n.0 place ≡ Some (Leaf result) }
     {
-        match self.nodes[n.0 as usize].items[place as usize - 1] {
+        match self.item(n, place) {
             StoredItem::Terminal(value) => value,
             StoredItem::Node(_) => unreachable!(),
         }
+    }
+
+    /// What stands at a place of a node, which counts from 1.
+    fn item(&self, n: NodeId, place: u32) -> StoredItem
+        requires { IsSome (item_at self.now n.0 place) }
+        ensures item { item_at self.now n.0 place ≡ Some (item_of result) }
+        ensures tree { IsTree self.now }
+    {
+        self.nodes[n.0 as usize].items[place as usize - 1]
     }
 }

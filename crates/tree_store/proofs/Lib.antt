@@ -1,0 +1,5 @@
+pub mod GrowthLemmas
+pub mod OpenLemmas
+pub mod ReadingLemmas
+pub mod StoredLemmas
+pub mod TestLemmas

@@ -1,6 +1,6 @@
 -- What tests of bytes say.
-use Rattle.std.proofs.Common.{◌≡◌, ◌≢◌, ℕ, ◌<◌, ◌≤◌, Bool, true, false, ◌==◌, List, [], ◌∷◌, length, refl, sym, ap, ◌∙◌, arith}
-use Rattle.std.proofs.lemmas.Bool.Decides.{Decides-eqb, not_from_Decides}
+use Rattle.std.proofs.Common.{◌≡◌, ◌≢◌, ℕ, ◌<◌, ◌≤◌, Bool, true, false, true≢false, if◌then◌else◌, ◌==◌, List, [], ◌∷◌, length, refl, sym, ap, ◌∙◌, arith}
+use Rattle.std.proofs.lemmas.Bool.Decides.{Decides-eqb, not_from_Decides, nat_tests}
 
 pub same : {a b : ℕ} → (a == b) ≡ true → a ≡ b
 same {a} {b} test = (Decides-eqb a b).0 test
@@ -24,3 +24,15 @@ empty_by (b ∷ text) none = absurd (omega (arith, none))
 
 pub empty_of : (empty : Bool) (text : List ℕ) → empty ≡ (length text == 0) → empty ≡ true → text ≡ []
 empty_of empty text test is = empty_by text (same (sym test ∙ is))
+
+pub unequal : (a b : ℕ) → a ≢ b → (a == b) ≡ false
+unequal a b other = grind (arith, nat_tests)
+
+-- a test that fails, and one that passes
+pub skip : {X : Type 0} (b : Bool) (x y z : X) → b ≡ false → y ≡ z → (if b then x else y) ≡ z
+skip true x y z is e = absurd (true≢false is)
+skip false x y z is e = e
+
+pub chosen : {X : Type 0} (b : Bool) (x y : X) → b ≡ true → (if b then x else y) ≡ x
+chosen true x y is = refl
+chosen false x y is = absurd (true≢false (sym is))

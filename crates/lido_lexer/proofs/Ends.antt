@@ -1,11 +1,11 @@
 -- The end of a comment, byte by byte. Its two bytes are variables here.
-use Rattle.std.proofs.Common.{◌≡◌, ◌≢◌, ℕ, ◌+◌, ◌<◌, ◌≤◌, Bool, true, false, cond, ◌==◌, ◌&&◌, if◌then◌else◌, List, [], ◌∷◌, ◌++◌, length, drop, get_or, Option, Some, None, refl, ap, sym, ◌∙◌, subst, arith, add-one, ◌⊎◌, inl, inr}
+use Rattle.std.proofs.Common.{◌≡◌, ◌≢◌, ℕ, ◌+◌, ◌<◌, ◌≤◌, Bool, true, false, ◌==◌, ◌&&◌, if◌then◌else◌, List, [], ◌∷◌, ◌++◌, length, drop, get_or, Option, Some, None, refl, ap, sym, ◌∙◌, subst, arith, add-one, ◌⊎◌, inl, inr}
 use Rattle.std.proofs.Math.Seq.{drop-cons}
 use Rattle.std.proofs.lemmas.List.{length-append, drop_all}
-use Rattle.std.proofs.lemmas.Bool.Decides.{nat_tests}
 use Rattle.lido_lexer.specs.Gaps.{EndsFirst}
 use Rattle.lido_lexer.proofs.Lists.{head_of, tail_of}
-use Rattle.lido_lexer.proofs.BytesLemmas.{same, differ}
+use Rattle.lido_lexer.proofs.Options.{held}
+use Rattle.lido_lexer.proofs.BytesLemmas.{same, differ, unequal}
 
 module _ (s t : ℕ) where
   -- s and t stand nowhere side by side
@@ -140,9 +140,6 @@ comment_on {bytes} {rest} is = to_first (ends_on 42 47 (star_slash 42 47 refl re
 pub comment_back : {bytes rest : List ℕ} → EndsFirst bytes rest → past_comment false bytes ≡ Some rest
 comment_back {bytes} {rest} ends = ends_back 42 47 (star_slash 42 47 refl refl) false bytes rest (from_first ends)
 
-held : {x y : List ℕ} → Some x ≡ Some y → x ≡ y
-held e = cc
-
 pub one_end : {bytes rest other : List ℕ} → EndsFirst bytes rest → EndsFirst bytes other → rest ≡ other
 one_end a b = held (sym (comment_back a) ∙ comment_back b)
 
@@ -167,9 +164,6 @@ pub ends_nowhere : (bytes : List ℕ) (i : ℕ) (star : Bool) → length bytes �
     → (rest : List ℕ) → EndsFirst bytes rest → ⊥
 ends_nowhere bytes i star past before rest ends =
     let e : None ≡ Some rest = sym (past_all 42 47 star i bytes past) ∙ before ∙ comment_back ends in cc
-
-unequal : (a b : ℕ) → a ≢ b → (a == b) ≡ false
-unequal a b other = grind (arith, nat_tests)
 
 pub not_both : (star : Bool) (b : ℕ) → (star ≡ false) ⊎ (b ≢ 47) → (star && (b == 47)) ≡ false
 not_both true b (inl e) = cc

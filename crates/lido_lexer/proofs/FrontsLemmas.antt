@@ -1,17 +1,18 @@
 -- Tokens and pieces between them, by their first byte.
-use Rattle.std.proofs.Common.{◌≡◌, ◌≢◌, ℕ, ℤ, ◌+◌, ◌<◌, ◌≤◌, Bool, true, false, cond, ◌==◌, ◌&&◌, ◌||◌, if◌then◌else◌, List, [], ◌∷◌, ◌++◌, length, take, drop, Option, Some, None, refl, ap, sym, ◌∙◌, subst, arith, true≢false, ◌⊎◌, inl, inr, IsTrue}
+use Rattle.std.proofs.Common.{◌≡◌, ℕ, ℤ, ◌<◌, Bool, true, false, cond, ◌==◌, ◌||◌, if◌then◌else◌, List, [], ◌∷◌, ◌++◌, length, drop, refl, ap, sym, ◌∙◌, subst, arith, true≢false, ◌⊎◌, inl, inr}
 use Rattle.std.specs.List.{take_while}
 use Rattle.std.proofs.lemmas.Bool.Decides.{nat_tests}
 use Rattle.std.proofs.lemmas.List.Sums.{take_while-cons}
 use Rattle.lido_lexer.specs.Bytes.{is_white, is_letter, is_digit, is_literal_byte, first_is, behind, is_line_byte}
 use Rattle.lido_lexer.specs.Gaps.{IsGap, white, block, line, EndsFirst}
 use Rattle.lido_lexer.specs.Keywords.{keyword_of}
-use Rattle.lido_lexer.specs.Signs.{IsSign, sign_of, sign_spelling, begins_comment}
-use Rattle.lido_lexer.specs.Tokens.{Shown, Word, Key, Int, Str, Literal, Sign, IsName, IsNumber, IsString, IsLiteral, IsQuoted, IsPart, IsFront}
-use Rattle.lido_lexer.specs.declared.keyword.Keyword.{Keyword}
+use Rattle.lido_lexer.specs.Signs.{IsSign, sign_spelling, begins_comment}
+use Rattle.lido_lexer.specs.Tokens.{Shown, Word, Key, Int, Str, Literal, Sign, IsName, IsNumber, IsString, IsLiteral, IsQuoted, IsFront}
 use Rattle.lido_lexer.specs.declared.sign.Sign.{Sign as Signs}
 use Rattle.lido_lexer.specs.declared.sign.Sign.TheVariants.{Produces, Arrow, AndAnd, OrOr, EqEq, NotEq, LessEq, GreaterEq, Colon, Semicolon, Comma, Dot, ParenOpen, ParenClose, BracketOpen, BracketClose, BraceOpen, BraceClose, Equal, Plus, Minus, Star, Slash, Percent, Bang, Less, Greater, Bar, Dollar}
-use Rattle.lido_lexer.proofs.Lists.{head_of, tail_of, no_bytes}
+use Rattle.lido_lexer.proofs.Lists.{head_of, tail_of}
+use Rattle.lido_lexer.proofs.Options.{held, none_some}
+use Rattle.lido_lexer.proofs.BytesLemmas.{same, skip, chosen}
 use Rattle.lido_lexer.proofs.Ends.{one_end}
 use Rattle.lido_lexer.proofs.PartsLemmas.{one_part, quote_no_part}
 use Rattle.lido_lexer.proofs.SignsLemmas.{sign_stands}
@@ -43,14 +44,6 @@ class_shown (Str text) = 3
 class_shown (Literal text) = 4
 class_shown (Sign sign) = 5
 
-chosen : {X : Type 0} (b : Bool) (x y : X) → b ≡ true → (if b then x else y) ≡ x
-chosen true x y is = refl
-chosen false x y is = absurd (true≢false (sym is))
-
-skip : {X : Type 0} (b : Bool) (x y z : X) → b ≡ false → y ≡ z → (if b then x else y) ≡ z
-skip true x y z is e = absurd (true≢false is)
-skip false x y z is e = e
-
 digit_no_letter : (b : ℕ) → is_digit b ≡ true → is_letter b ≡ false
 digit_no_letter b test = grind (arith, nat_tests)
 
@@ -73,11 +66,8 @@ or_cases : (a b : Bool) → (a || b) ≡ true → (a ≡ true) ⊎ (b ≡ true)
 or_cases true b is = inl refl
 or_cases false b is = inr is
 
-same_test : (b k : ℕ) → (b == k) ≡ true → b ≡ k
-same_test b k test = grind (arith, nat_tests)
-
 white_class_at : (b k : ℕ) → (b == k) ≡ true → class k ≡ 6 → class b ≡ 6
-white_class_at b k test is = ap class (same_test b k test) ∙ is
+white_class_at b k test is = ap class (same test) ∙ is
 
 white_last : (b : ℕ) → (b == 13) ≡ true ⊎ (b == 10) ≡ true → class b ≡ 6
 white_last b (inl is) = white_class_at b 13 is refl
@@ -158,12 +148,6 @@ one_literal : {bytes a b rest other : List ℕ} → IsLiteral bytes a rest → I
 one_literal s t =
     let inner = tail_of (sym s.opened ∙ t.opened) in
     (s.all ∙ ap (take_while is_literal_byte) inner ∙ sym t.all, tail_of (sym s.closed ∙ ap (behind is_literal_byte) inner ∙ t.closed))
-
-held : {X : Type 0} {x y : X} → Some x ≡ Some y → x ≡ y
-held e = cc
-
-none_some : {X : Type 0} {x : X} → None ≡ Some x → ⊥
-none_some e = cc
 
 one_sign : {bytes rest other : List ℕ} {a b : Signs} → IsSign bytes a rest → IsSign bytes b other → (a ≡ b) × (rest ≡ other)
 one_sign {bytes} s t =

@@ -1,5 +1,5 @@
 -- Pieces between tokens, by their first bytes.
-use Rattle.std.proofs.Common.{◌≡◌, ◌≢◌, ℕ, Bool, true, false, List, [], ◌∷◌, ◌++◌, Option, Some, None, refl, ap, sym, ◌∙◌, subst, arith, true≢false, ◌⊎◌, inl, inr, IsTrue}
+use Rattle.std.proofs.Common.{◌≡◌, ◌≢◌, ℕ, true, false, List, [], ◌∷◌, refl, ap, sym, ◌∙◌, subst, true≢false, ◌⊎◌, inl, inr}
 use Rattle.lido_lexer.specs.Bytes.{is_white, is_line_byte, behind}
 use Rattle.lido_lexer.specs.Gaps.{IsGap, white, block, line, EndsFirst}
 use Rattle.lido_lexer.proofs.Lists.{head_of, tail_of, no_bytes}
@@ -33,23 +33,10 @@ no_bytes_no_gap none (white is passes) = no_bytes (sym none ∙ is)
 no_bytes_no_gap none (block is ends) = no_bytes (sym none ∙ is)
 no_bytes_no_gap none (line is rest_is) = no_bytes (sym none ∙ is)
 
-pub other_no_gap : {bytes more rest : List ℕ} {b : ℕ} → bytes ≡ b ∷ more → is_white b ≡ false → b ≢ 47 → IsGap bytes rest → ⊥
-other_no_gap at other slash (white is passes) = white_is (sym (head_of (sym at ∙ is))) other passes
-other_no_gap at other slash (block is ends) = slash (head_of (sym at ∙ is))
-other_no_gap at other slash (line is rest_is) = slash (head_of (sym at ∙ is))
-
 by_second : {inner body rest : List ℕ} {b : ℕ} → inner ≡ b ∷ body → b ≢ 42 ⊎ (EndsFirst body rest → ⊥) → b ≢ 47 → IsBlock inner rest ⊎ IsLine inner rest → ⊥
 by_second at (inl star) slash (inl (body, is, ends)) = star (head_of (sym at ∙ is))
 by_second {rest = rest} at (inr none) slash (inl (body, is, ends)) = none (subst (λ (l : List ℕ). EndsFirst l rest) (sym (tail_of (sym at ∙ is))) ends)
 by_second at star slash (inr (body, is, rest_is)) = slash (head_of (sym at ∙ is))
-
-without_second : {inner rest : List ℕ} → inner ≡ [] → IsBlock inner rest ⊎ IsLine inner rest → ⊥
-without_second none (inl (body, is, ends)) = no_bytes (sym none ∙ is)
-without_second none (inr (body, is, rest_is)) = no_bytes (sym none ∙ is)
-
--- a slash and nothing behind it
-pub slash_no_gap : {inner rest : List ℕ} → inner ≡ [] → IsGap (47 ∷ inner) rest → ⊥
-slash_no_gap none it = without_second none (comment_cases it refl)
 
 -- a slash, and no comment with what is behind it
 pub second_no_gap : {inner body rest : List ℕ} {b : ℕ} → inner ≡ b ∷ body → b ≢ 42 ⊎ (EndsFirst body rest → ⊥) → b ≢ 47 → IsGap (47 ∷ inner) rest → ⊥

@@ -1,9 +1,7 @@
 -- A text has one list of tokens at most, or one place where it is stuck, and never both.
-use Rattle.std.proofs.Common.{◌≡◌, ◌≢◌, ℕ, List, [], ◌∷◌, length, Result, Ok, Err, refl, ap, sym, ◌∙◌, subst}
+use Rattle.std.proofs.Common.{◌≡◌, ℕ, List, ◌∷◌, length, Result, Ok, Err, refl, ap, sym, ◌∙◌, subst}
 use Rattle.lido_base.specs.Phases.{IsThe}
-use Rattle.lido_lexer.specs.Gaps.{IsGap}
-use Rattle.lido_lexer.specs.Tokens.{Shown, IsFront}
-use Rattle.lido_lexer.specs.Lexing.{Placed, placed, Lexes, ended, after_gap, with_token, IsStuck, here, past_gap, past_token, HasNoFront, Lexing}
+use Rattle.lido_lexer.specs.Lexing.{Placed, placed, Lexes, ended, after_gap, with_token, IsStuck, here, past_gap, past_token, Lexing}
 use Rattle.lido_lexer.specs.declared.token.LexFault.{LexFault}
 use Rattle.lido_lexer.specs.declared.token.LexFault.TheVariants as fault
 use Rattle.lido_lexer.proofs.GapsLemmas.{no_bytes_no_gap}

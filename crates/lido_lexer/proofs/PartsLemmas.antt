@@ -1,24 +1,19 @@
 -- The parts of a string.
-use Rattle.std.proofs.Common.{◌≡◌, ◌≢◌, ℕ, ◌+◌, ◌<◌, ◌≤◌, Bool, true, false, cond, ◌==◌, ◌&&◌, nat_le, if◌then◌else◌, List, [], ◌∷◌, ◌++◌, length, take, drop, Option, Some, None, refl, ap, sym, ◌∙◌, subst, arith, true≢false, ◌⊎◌, inl, inr, IsTrue, append_assoc, append-nil}
-use Rattle.std.specs.List.{prefix_len, take_while}
+use Rattle.std.proofs.Common.{◌≡◌, ◌≢◌, ℕ, ◌<◌, ◌≤◌, Bool, true, false, cond, ◌==◌, List, [], ◌∷◌, ◌++◌, length, take, drop, Some, None, refl, ap, sym, ◌∙◌, subst, arith, true≢false, ◌⊎◌, inl, inr, append_assoc, append-nil}
+use Rattle.std.specs.List.{take_while}
 use Rattle.std.proofs.lemmas.Bool.Decides.{nat_tests}
 use Rattle.std.proofs.lemmas.List.Sums.{take_while-cons}
 use Rattle.lido_lexer.specs.Bytes.{is_octal, is_plain, octal_front, value_in}
 use Rattle.lido_lexer.specs.Tokens.{IsPart, plain, escape, octal, IsQuoted, escaped}
-use Rattle.lido_lexer.proofs.Lists.{head_of, tail_of, no_bytes}
+use Rattle.lido_lexer.proofs.Lists.{head_of, tail_of}
+use Rattle.lido_lexer.proofs.Options.{held, none_some}
+use Rattle.lido_lexer.proofs.BytesLemmas.{unequal, skip}
 
 abbrev IsEscape : List ℕ → ℕ → List ℕ → Type 0
 IsEscape inner byte rest = (letter : ℕ) × (inner ≡ letter ∷ rest) × (escaped letter ≡ Some byte)
 
 abbrev IsOctal : List ℕ → ℕ → List ℕ → Type 0
 IsOctal inner byte rest = (0 < length (octal_front inner)) × (byte ≡ value_in 8 (octal_front inner)) × (byte ≤ 255) × (rest ≡ drop (length (octal_front inner)) inner)
-
-unequal : (a b : ℕ) → a ≢ b → (a == b) ≡ false
-unequal a b other = grind (arith, nat_tests)
-
-skip : {X : Type 0} (b : Bool) (x y z : X) → b ≡ false → y ≡ z → (if b then x else y) ≡ z
-skip true x y z is e = absurd (true≢false is)
-skip false x y z is e = e
 
 octal_low : (b : ℕ) → is_octal b ≡ true → 48 ≤ b
 octal_low b test = grind (arith, nat_tests)
@@ -40,12 +35,6 @@ not_escaped b low high =
     skip (b == 39) _ _ _ (unequal b 39 (λ e. omega arith)) (
     skip (b == 63) _ _ _ (unequal b 63 (λ e. omega arith)) refl))))))))))
 
-some_none : {x : ℕ} → Some x ≡ None → ⊥
-some_none e = cc
-
-held : {x y : ℕ} → Some x ≡ Some y → x ≡ y
-held e = cc
-
 no_octal_by : (letter : ℕ) (more : List ℕ) (b : Bool) → is_octal letter ≡ b → escaped letter ≢ None → length (octal_front (letter ∷ more)) ≡ 0
 no_octal_by letter more true is meant = absurd (meant (not_escaped letter (octal_low letter is) (octal_high letter is)))
 no_octal_by letter more false is meant =
@@ -54,7 +43,7 @@ no_octal_by letter more false is meant =
 -- no digit stands where a letter with a meaning does
 no_octal : {letter byte : ℕ} {inner rest : List ℕ} → inner ≡ letter ∷ rest → escaped letter ≡ Some byte → 0 < length (octal_front inner) → ⊥
 no_octal {letter} {byte} {inner} {rest} at meant some =
-    let none : length (octal_front (letter ∷ rest)) ≡ 0 = no_octal_by letter rest (is_octal letter) refl (λ e. some_none (sym meant ∙ e)) in
+    let none : length (octal_front (letter ∷ rest)) ≡ 0 = no_octal_by letter rest (is_octal letter) refl (λ e. none_some (sym e ∙ meant)) in
     let e = ap (λ (l : List ℕ). length (octal_front l)) at in
     omega (arith, none, e, some)
 
@@ -69,9 +58,6 @@ backslash {rest = rest} {byte = byte} (octal {inner = behind} is some value smal
 
 -- ---- parts that are there
 
-pub plain_part : {bytes rest : List ℕ} {b : ℕ} → bytes ≡ b ∷ rest → is_plain b ≡ true → IsPart bytes b rest
-plain_part is passes = plain is passes
-
 pub escape_part : {inner rest : List ℕ} {letter byte : ℕ} → inner ≡ letter ∷ rest → escaped letter ≡ Some byte → IsPart (92 ∷ inner) byte rest
 escape_part {letter = letter} is meant = escape {letter = letter} (ap (λ (l : List ℕ). 92 ∷ l) is) meant
 
@@ -81,12 +67,7 @@ octal_part {inner} some value small rest_is = octal {inner = inner} refl some va
 
 -- ---- parts that are not
 
-pub no_bytes_no_part : {bytes rest : List ℕ} {byte : ℕ} → bytes ≡ [] → IsPart bytes byte rest → ⊥
-no_bytes_no_part none (plain is passes) = no_bytes (sym none ∙ is)
-no_bytes_no_part none (escape is meant) = no_bytes (sym none ∙ is)
-no_bytes_no_part none (octal is some value small rest_is) = no_bytes (sym none ∙ is)
-
-pub other_no_part : {bytes more rest : List ℕ} {b byte : ℕ} → bytes ≡ b ∷ more → is_plain b ≡ false → b ≢ 92 → IsPart bytes byte rest → ⊥
+other_no_part : {bytes more rest : List ℕ} {b byte : ℕ} → bytes ≡ b ∷ more → is_plain b ≡ false → b ≢ 92 → IsPart bytes byte rest → ⊥
 other_no_part at other slash (plain is passes) = plain_is (head_of (sym is ∙ at)) other passes
 other_no_part at other slash (escape is meant) = slash (head_of (sym at ∙ is))
 other_no_part at other slash (octal is some value small rest_is) = slash (head_of (sym at ∙ is))
@@ -98,22 +79,6 @@ large_by some large (inr (also, value, small, rest_is)) = omega (arith, large, v
 -- octal digits of too large a value
 pub large_no_part : {inner rest : List ℕ} {byte : ℕ} → 0 < length (octal_front inner) → 255 < value_in 8 (octal_front inner) → IsPart (92 ∷ inner) byte rest → ⊥
 large_no_part some large it = large_by some large (backslash it refl)
-
-end_by : {inner rest : List ℕ} {byte : ℕ} → inner ≡ [] → IsEscape inner byte rest ⊎ IsOctal inner byte rest → ⊥
-end_by none (inl (letter, is, meant)) = no_bytes (sym none ∙ is)
-end_by none (inr (some, value, small, rest_is)) = let e = ap (λ (l : List ℕ). length (octal_front l)) none in omega (arith, e, some)
-
--- a backslash with nothing behind it
-pub end_no_part : {inner rest : List ℕ} {byte : ℕ} → inner ≡ [] → IsPart (92 ∷ inner) byte rest → ⊥
-end_no_part none it = end_by none (backslash it refl)
-
-strange_by : {inner more rest : List ℕ} {letter byte : ℕ} → inner ≡ letter ∷ more → escaped letter ≡ None → length (octal_front inner) ≡ 0 → IsEscape inner byte rest ⊎ IsOctal inner byte rest → ⊥
-strange_by at none no_digits (inl (other, is, meant)) = some_none (sym meant ∙ ap escaped (head_of (sym is ∙ at)) ∙ none)
-strange_by at none no_digits (inr (some, value, small, rest_is)) = omega (arith, no_digits, some)
-
--- a backslash and a byte without a meaning behind it
-pub strange_no_part : {inner more rest : List ℕ} {letter byte : ℕ} → inner ≡ letter ∷ more → escaped letter ≡ None → length (octal_front inner) ≡ 0 → IsPart (92 ∷ inner) byte rest → ⊥
-strange_no_part at none no_digits it = strange_by at none no_digits (backslash it refl)
 
 -- the quote ends the parts
 pub quote_no_part : {bytes more rest : List ℕ} {byte : ℕ} → bytes ≡ 34 ∷ more → IsPart bytes byte rest → ⊥

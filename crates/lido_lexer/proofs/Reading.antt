@@ -1,11 +1,11 @@
 -- A text that is read up to a place.
-use Rattle.std.proofs.Common.{◌≡◌, ◌≢◌, ℕ, zero, suc, ◌+◌, ◌-◌, ◌<◌, ◌≤◌, ◌⊎◌, inl, inr, List, [], ◌∷◌, ◌++◌, length, map, Option, Some, None, slice_get, unwrap_or, All, Err, refl, ap, sym, ◌∙◌, subst, arith, append_assoc, append-nil}
+use Rattle.std.proofs.Common.{◌≡◌, ◌≢◌, ℕ, zero, suc, ◌<◌, ◌≤◌, ◌⊎◌, inl, inr, List, [], ◌∷◌, ◌++◌, length, map, Option, slice_get, unwrap_or, All, Err, refl, ap, sym, ◌∙◌, subst, arith, append_assoc, append-nil}
 use Rattle.std.proofs.lemmas.List.{map-append, length-append}
 use Rattle.std.proofs.lemmas.List.Elements.{All-head, All-tail, All-push}
 use Rattle.lido_base.specs.Phases.{IsThe}
 use Rattle.lido_lexer.specs.Gaps.{IsGap, IsPast, at_once, one_more}
-use Rattle.lido_lexer.specs.Tokens.{Shown, IsFront, Word, Str, Literal, shown_kind}
-use Rattle.lido_lexer.specs.Lexing.{Placed, Lexes, ended, after_gap, with_token, IsStuck, here, past_gap, past_token, shown_in, placed, place, Gains, HasText, IsInOrder, IsRefusal, Lexing}
+use Rattle.lido_lexer.specs.Tokens.{IsFront, Word, Str, Literal, shown_kind}
+use Rattle.lido_lexer.specs.Lexing.{Placed, Lexes, ended, after_gap, with_token, IsStuck, here, past_gap, past_token, shown_in, placed, Gains, HasText, IsInOrder, IsRefusal, Lexing}
 use Rattle.lido_lexer.specs.declared.token.Token.{Token}
 use Rattle.lido_lexer.specs.declared.token.TokenKind.{TokenKind}
 use Rattle.lido_lexer.specs.declared.token.TokenKind.TheVariants as kind

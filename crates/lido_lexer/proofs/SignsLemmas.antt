@@ -1,5 +1,5 @@
 -- The sign in front.
-use Rattle.std.proofs.Common.{◌≡◌, ℕ, ◌<◌, ◌≤◌, Bool, true, false, cond, nat_eq, nat_le, ◌&&◌, List, [], ◌∷◌, ◌++◌, length, take, drop, Option, Some, None, find, refl, ap, sym, ◌∙◌, true≢false, ◌⊎◌, inl, inr, arith}
+use Rattle.std.proofs.Common.{◌≡◌, ℕ, ◌≤◌, Bool, true, false, cond, nat_eq, nat_le, ◌&&◌, List, [], ◌∷◌, ◌++◌, length, drop, Option, Some, find, refl, ap, sym, ◌∙◌, true≢false, ◌⊎◌, inl, inr, arith}
 use Rattle.std.specs.List.{starts_with, list_all}
 use Rattle.std.proofs.lemmas.Slice.Eq.{starts_is}
 use Rattle.std.proofs.lemmas.List.{length-append}
@@ -13,7 +13,7 @@ chosen test true x y more passes later is = cc
 chosen test false x y more passes later is = later is
 
 -- what is found passes the test
-pub find_passes : {X : Type 0} (test : X → Bool) (xs : List X) (y : X) → find test xs ≡ Some y → test y ≡ true
+find_passes : {X : Type 0} (test : X → Bool) (xs : List X) (y : X) → find test xs ≡ Some y → test y ≡ true
 find_passes test [] y is = cc
 find_passes test (x ∷ xs) y is = chosen test (test x) x y (find test xs) refl (find_passes test xs y) is
 

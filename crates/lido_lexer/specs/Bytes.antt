@@ -6,9 +6,11 @@ use Rattle.std.specs.List.{prefix_len}
 abbrev pub is_white : ℕ → Bool
 is_white b = b == 32 || (b == 9 || (b == 12 || (b == 13 || b == 10)))
 
+-- A decimal digit.
 abbrev pub is_digit : ℕ → Bool
 is_digit b = nat_le 48 b && nat_le b 57
 
+-- An octal digit.
 abbrev pub is_octal : ℕ → Bool
 is_octal b = nat_le 48 b && nat_le b 55
 

@@ -1,5 +1,5 @@
 -- What may stand between tokens.
-use Rattle.std.specs.Prelude.{◌≡◌, ◌≢◌, ℕ, List, [], ◌∷◌, ◌++◌, codes, IsTrue}
+use Rattle.std.specs.Prelude.{◌≡◌, ◌≢◌, ℕ, List, ◌∷◌, ◌++◌, codes, IsTrue}
 use Rattle.lido_lexer.specs.Bytes.{is_white, is_line_byte, behind}
 
 -- "*/" stands nowhere in the text.

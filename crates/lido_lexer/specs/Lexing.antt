@@ -1,5 +1,5 @@
 -- A whole text and its tokens.
-use Rattle.std.specs.Prelude.{◌≡◌, ◌≢◌, ◌-◌, ◌<◌, ◌≤◌, ⊤, ℕ, List, [], ◌∷◌, ◌++◌, length, map, Result, Ok, Err}
+use Rattle.std.specs.Prelude.{◌≡◌, ◌≢◌, ◌-◌, ◌<◌, ◌≤◌, ⊤, ℕ, List, [], ◌∷◌, ◌++◌, length, Result, Ok, Err}
 use Rattle.lido_lexer.specs.declared.token.Token.{Token}
 use Rattle.lido_lexer.specs.declared.token.LexFault.{LexFault}
 use Rattle.lido_lexer.specs.declared.token.LexFault.TheVariants as fault
@@ -33,7 +33,7 @@ pub data Lexes (size : ℕ) : List ℕ → List Placed → Type 0 where
   with_token : {bytes rest : List ℕ} {shown : Shown} {tokens : List Placed} → IsFront bytes shown rest
       → Lexes size rest tokens → Lexes size bytes (placed size bytes shown rest ∷ tokens)
 
--- Something is in front, and it begins neither with a token nor with a piece that may stand between tokens.
+-- Something is in front, and it is neither a token nor a piece that may stand between tokens.
 pub record HasNoFront (bytes : List ℕ) : Type 0 where
   pub more : bytes ≢ []
   pub no_gap : (rest : List ℕ) → IsGap bytes rest → ⊥

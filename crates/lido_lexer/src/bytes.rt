@@ -2,30 +2,35 @@
 ghost use Rattle.std.specs.Prelude.{◌≡◌, length, drop, take_while};
 ghost use Rattle.lido_lexer.specs.Bytes.{is_white, is_digit, is_octal, is_letter, is_name_byte, is_line_byte, is_literal_byte, is_plain, behind, octal_front};
 
+/// White space: space, tab, form feed, carriage return and line feed.
 pub fn is_white(b: u8) -> bool
     ensures { result ≡ is_white b }
 {
     b == b' ' || (b == b'\t' || (b == 12 || (b == b'\r' || b == b'\n')))
 }
 
+/// A decimal digit.
 pub fn is_digit(b: u8) -> bool
     ensures { result ≡ is_digit b }
 {
     b >= b'0' && b <= b'9'
 }
 
+/// An octal digit.
 pub fn is_octal(b: u8) -> bool
     ensures { result ≡ is_octal b }
 {
     b >= b'0' && b <= b'7'
 }
 
+/// A letter of ASCII, or an underscore.
 pub fn is_letter(b: u8) -> bool
     ensures { result ≡ is_letter b }
 {
     (b >= b'A' && b <= b'Z') || ((b >= b'a' && b <= b'z') || b == b'_')
 }
 
+/// A byte that stands for itself in a string.
 pub fn is_plain(b: u8) -> bool
     ensures { result ≡ is_plain b }
 {

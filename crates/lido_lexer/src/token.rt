@@ -3,8 +3,8 @@ ghost use Rattle.std.specs.Prelude.{◌≡◌};
 ghost use Rattle.lido_lexer.specs.declared.token.LexFault.TheVariants.{Memory};
 
 use crate::{Keyword, Sign};
-use lido_base::{Memory as WantOfMemory, StrId};
-use std::alloc::{AllocError, AllocFailed};
+use lido_base::StrId;
+use std::alloc::AllocFailed;
 use thiserror::Error;
 
 /// A token: the bytes of the text from `from` up to and without `to`, and what they say. Both count bytes from the start of the
@@ -39,22 +39,6 @@ pub enum LexFault {
     Lexical { at: u32 },
     #[error("out of memory")]
     Memory,
-}
-
-impl From<WantOfMemory> for LexFault {
-    ghost from_gives = { λ _ e. e ≡ Memory };
-
-    fn from(_: WantOfMemory) -> Self {
-        LexFault::Memory
-    }
-}
-
-impl From<AllocError> for LexFault {
-    ghost from_gives = { λ _ e. e ≡ Memory };
-
-    fn from(_: AllocError) -> Self {
-        LexFault::Memory
-    }
 }
 
 impl<T: Drop> From<AllocFailed<T>> for LexFault {

@@ -1,4 +1,4 @@
-use Rattle.std.proofs.Common.{rules, arith, inl, inr, subst, sym, List, ℕ}
+use Rattle.std.proofs.Common.{inl, inr, subst, sym, List, ℕ}
 use Rattle.std.proofs.lemmas.List.{take_rest}
 use Rattle.lido_lexer.specs.Gaps.{EndsFirst}
 use Rattle.lido_lexer.proofs.Ends.{ends_at, ends_later, ends_nowhere, not_both}

@@ -1,4 +1,4 @@
-use Rattle.std.proofs.Common.{List, ℕ, ◌∷◌, inl, inr, Bor, arith}
+use Rattle.std.proofs.Common.{◌∷◌, inr, arith}
 use Rattle.lido_lexer.specs.Gaps.{EndsFirst, IsGap}
 use Rattle.lido_lexer.proofs.Options.{if_some, if_none}
 use Rattle.lido_lexer.proofs.GapsLemmas.{block_gap, line_gap, second_no_gap}

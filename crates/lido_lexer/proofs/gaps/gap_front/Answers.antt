@@ -1,4 +1,4 @@
-use Rattle.std.proofs.Common.{◌≡◌, List, ℕ, ◌∷◌, sym, ap, ◌∙◌, subst, true, rules}
+use Rattle.std.proofs.Common.{List, ℕ, ◌∷◌, sym, ap, ◌∙◌, subst}
 use Rattle.lido_lexer.specs.Gaps.{IsGap}
 use Rattle.lido_lexer.proofs.Options.{if_some, if_none}
 use Rattle.lido_lexer.proofs.GapsLemmas.{white_gap}

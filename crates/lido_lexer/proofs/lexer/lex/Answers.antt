@@ -1,8 +1,8 @@
-use Rattle.std.proofs.Common.{◌≡◌, ◌<◌, ◌≤◌, ℕ, List, [], ◌∷◌, ◌++◌, length, All, ap, sym, ◌∙◌, subst, arith}
+use Rattle.std.proofs.Common.{List, [], ◌∷◌, length, All, ap, sym, subst, arith}
 use Rattle.std.proofs.lemmas.List.{length-append}
 use Rattle.lido_lexer.specs.Lexing.{HasText, IsInOrder, Placed, place}
 use Rattle.lido_lexer.specs.declared.token.Token.{Token}
-use Rattle.lido_lexer.proofs.Reading.{IsReading, reading_start, reading_more, reading_end, refused, gains_none, gains_more, gains_length, ids_more, order_more, order_within}
+use Rattle.lido_lexer.proofs.Reading.{IsReading, reading_start, reading_more, reading_end, refused, gains_none, gains_more, gains_length, ids_more, order_more}
 use Rattle.lido_lexer.proofs.One.{lexed_is}
 use Rattle.lido_lexer.proofs.BytesLemmas.{empty_of, nonempty_of}
 use Rattle.lido_lexer.proofs.lexer.lex.Goals as goal

@@ -1,4 +1,4 @@
-use Rattle.std.proofs.Common.{ℕ, ◌+◌, ◌≤◌, List, length, All}
+use Rattle.std.proofs.Common.{◌+◌, ◌≤◌, length, All}
 use Rattle.lido_lexer.specs.Lexing.{Gains, HasText, IsInOrder, place}
 use Rattle.lido_lexer.specs.declared.token.Token.{Token}
 use Rattle.lido_lexer.proofs.Reading.{IsReading}

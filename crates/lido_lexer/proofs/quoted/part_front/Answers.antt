@@ -1,4 +1,4 @@
-use Rattle.std.proofs.Common.{◌≡◌, List, ℕ, ◌∷◌, sym, ap, ◌∙◌, subst}
+use Rattle.std.proofs.Common.{List, ℕ, ◌∷◌, ap, ◌∙◌, subst}
 use Rattle.lido_lexer.specs.Tokens.{IsPart}
 use Rattle.lido_lexer.proofs.Options.{if_none}
 use Rattle.lido_lexer.proofs.quoted.part_front.Goals as goal

@@ -1,6 +1,5 @@
-use Rattle.std.proofs.Common.{◌≡◌, ℕ, ◌≤◌, length, ap, sym, ◌∙◌, arith}
+use Rattle.std.proofs.Common.{ℕ, length, ap, sym, arith}
 use Rattle.std.proofs.lemmas.List.{length-take, length-drop}
-use Rattle.lido_lexer.specs.Signs.{sign_spelling}
 use Rattle.lido_lexer.proofs.SignsLemmas.{sign_within}
 use Rattle.lido_lexer.proofs.sign.sign_front.Goals as goal
 

@@ -1,5 +1,5 @@
--- The written trees that fit a grammar, and the size of their flat trees.
-use Rattle.std.specs.Prelude.{◌≡◌, ℕ, suc, ◌+◌, ◌<◌, ◌≤ℤ◌, ◌<ℤ◌, ℤ, negsuc, pos, ◌-◌, ◌^◌, List, length, sum_by, Some, None, slice_get, true, false, Contains, All}
+-- The written trees that fit a flat grammar, and the sizes of their flat trees.
+use Rattle.std.specs.Prelude.{◌≡◌, ℕ, suc, ◌+◌, ◌<◌, ◌≤◌, ◌≤ℤ◌, ◌<ℤ◌, ℤ, negsuc, pos, ◌-◌, ◌^◌, List, length, sum_by, Some, None, slice_get, true, false, Contains, All}
 use Rattle.std.specs.List.{AllZip}
 use Rattle.lido_base.specs.declared.ids.SymId.{SymId}
 use Rattle.lido_base.specs.declared.value.ValueType.{ValueType}
@@ -13,24 +13,28 @@ use Rattle.flat_grammar.specs.declared.flat.FlatRule.{FlatRule}
 use Rattle.flat_grammar.specs.declared.flat.FlatComp.{FlatComp}
 use Rattle.flat_grammar.specs.declared.flat.Shape.{Shape}
 use Rattle.flat_grammar.specs.declared.flat.FlatExpr.{FlatExpr, Value, Terminal, Read, Apply', If', Order', Row_of-FlatExpr, end_of-FlatExpr, more_of-FlatExpr}
-use Rattle.flat_grammar.specs.Rules.{attrs_of}
+use Rattle.flat_grammar.specs.Rules.{attrs_of, HasRule}
 
 module _ (symbols : List FlatSymbol) (rules : List FlatRule) (shapes : List Shape) (root : SymId) (t : Tree Plain) where
+  -- the node names the rule of this shape
   abbrev pub HasShape : ℕ → Shape → Type 0
   HasShape n shape = Contains shapes shape × (rule_at t n ≡ Some shape.rule.0)
 
+  -- the symbol stands on the left side of the node's rule
   abbrev pub HasSymbol : ℕ → SymId → Type 0
-  HasSymbol n s = (i : ℕ) × (r : FlatRule) × (rule_at t n ≡ Some i) × (slice_get rules i ≡ Some r) × (r.left ≡ s)
+  HasSymbol n s = (r : FlatRule) × HasRule rules t n r × (r.left ≡ s)
 
+  -- the symbol is a terminal of this type
   abbrev pub IsTerminal : SymId → ValueType → Type 0
   IsTerminal s ty = (x : FlatSymbol) × (slice_get symbols s.0 ≡ Some x) × (x.terminal ≡ Some ty)
 
-  -- what may stand for the symbol
+  -- what may stand for the symbol: a node of it, a 64-bit number or a string
   pub data IsItem (s : SymId) : Item Plain → Type 0 where
     node : {c : ℕ} → HasSymbol c s → IsItem s (Child c)
     int : {z : ℤ} → IsTerminal s type.Int → negsuc (2 ^ 63 - 1) ≤ℤ z → z <ℤ pos (2 ^ 63) → IsItem s (Leaf (Int z))
     string : {bytes : List ℕ} → IsTerminal s type.Str → IsItem s (Leaf (Str bytes))
 
+  -- node 0 has the root symbol, and each node's children are those that its rule allows: for a list any number of elements
   pub record IsFitting : Type 0 where
     pub tree : IsTree t
     pub root_node : HasSymbol 0 root
@@ -46,6 +50,7 @@ own_cells op.Seq k = suc k
 own_cells (op.Pattern p) k = suc k
 own_cells _ k = 0
 
+-- the text cells of an expression, both branches of an IF counted
 abbrev mutual
   pub cells : FlatExpr → ℕ
   cells (Value v) = 0
@@ -68,8 +73,21 @@ module _ {V : Type 0} (symbols : List FlatSymbol) (rules : List FlatRule) (flat 
   abbrev pub at_node : (FlatRule → ℕ) → ℕ → ℕ
   at_node f n = elim (slice_get rules n) [ None ↦ 0 | Some r ↦ f r ]
 
+  -- how many instances the flat tree has: its nodes' attributes
   abbrev pub instances : ℕ
   instances = sum_by (λ (node : Node V). at_node (λ r. length (attrs_of symbols r.left)) node.rule) flat
 
+  -- how many text cells its computations have
   abbrev pub text_cells : ℕ
   text_cells = sum_by (λ (node : Node V). at_node (λ r. sum_by (λ (c : FlatComp). cells c.value) r.comps) node.rule) flat
+
+-- the most instances and text cells that a flat tree may have
+abbrev pub most_instances : ℕ
+most_instances = 4194304
+
+abbrev pub most_text_cells : ℕ
+most_text_cells = 16777216
+
+-- the flat tree is within the limits on both
+abbrev pub IsWithinLimits : {V : Type 0} → List FlatSymbol → List FlatRule → Tree V → Type 0
+IsWithinLimits symbols rules flat = (instances symbols rules flat ≤ most_instances) × (text_cells symbols rules flat ≤ most_text_cells)

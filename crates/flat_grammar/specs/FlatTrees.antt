@@ -1,4 +1,5 @@
--- The flat tree of a written tree: under each list node stands a chain of cells.
+-- The flat tree of a written tree: under each list node stands a chain of cells, each with one element and the next cell, the
+-- last with nothing. Our own normal form of lists.
 use Rattle.std.specs.Prelude.{◌≡◌, ℕ, ◌<◌, Bool, true, false, ◌&&◌, IsTrue, List, [], ◌∷◌, length, Some, slice_get, Contains}
 use Rattle.std.specs.List.{list_any}
 use Rattle.lido_base.specs.declared.ids.SymId.{SymId}
@@ -6,6 +7,7 @@ use Rattle.lido_base.specs.Tree.{Tree, Item, Child, Leaf, IsTree, rule_at, items
 use Rattle.flat_grammar.specs.declared.flat.FlatSymbol.{FlatSymbol}
 use Rattle.flat_grammar.specs.declared.flat.FlatRule.{FlatRule}
 use Rattle.flat_grammar.specs.declared.flat.Shape.{Shape}
+use Rattle.flat_grammar.specs.Rules.{HasRule}
 use Rattle.flat_grammar.specs.WellFormed.{cell_of, is_same_symbol}
 
 module _ (symbols : List FlatSymbol) (rules : List FlatRule) (shapes : List Shape) where
@@ -14,21 +16,19 @@ module _ (symbols : List FlatSymbol) (rules : List FlatRule) (shapes : List Shap
   is_cell s = list_any (λ shape. shape.list && is_same_symbol s (cell_of symbols rules shape)) shapes
 
   module _ {V : Type 0} (written flat : Tree V) (node_of : List ℕ) where
-    abbrev pub HasRule : Tree V → ℕ → FlatRule → Type 0
-    HasRule t n r = (i : ℕ) × (rule_at t n ≡ Some i) × (slice_get rules i ≡ Some r)
-
-    -- flat node n is a cell, or stands for a written node
+    -- flat node n is a cell
     abbrev pub IsCellNode : ℕ → Type 0
-    IsCellNode n = (r : FlatRule) × HasRule flat n r × IsTrue (is_cell r.left)
+    IsCellNode n = (r : FlatRule) × HasRule rules flat n r × IsTrue (is_cell r.left)
 
+    -- flat node n is no cell, and stands for written node w
     abbrev pub StandsFor : ℕ → ℕ → Type 0
     StandsFor n w = ¬ IsCellNode n × (slice_get node_of n ≡ Some w)
 
     -- the cells from c on have these written nodes as elements, and belong to list node w
     abbrev pub AreCells : SymId → ℕ → ℕ → List ℕ → Type 0
-    AreCells cell w c [] = (r : FlatRule) × HasRule flat c r × (r.left ≡ cell) × (r.right ≡ []) × (items_of flat c ≡ []) × (slice_get node_of c ≡ Some w)
+    AreCells cell w c [] = (r : FlatRule) × HasRule rules flat c r × (r.left ≡ cell) × (r.right ≡ []) × (items_of flat c ≡ []) × (slice_get node_of c ≡ Some w)
     AreCells cell w c (x ∷ xs) = (r : FlatRule) × (element : FlatRule) × (e : ℕ) × (next : ℕ)
-        × HasRule flat c r × HasRule flat e element × (r.left ≡ cell) × (r.right ≡ element.left ∷ cell ∷ [])
+        × HasRule rules flat c r × HasRule rules flat e element × (r.left ≡ cell) × (r.right ≡ element.left ∷ cell ∷ [])
         × (items_of flat c ≡ Child e ∷ Child next ∷ []) × (slice_get node_of c ≡ Some w) × StandsFor e x × AreCells cell w next xs
 
     -- the items stand for each other
@@ -38,6 +38,7 @@ module _ (symbols : List FlatSymbol) (rules : List FlatRule) (shapes : List Shap
     AreItems (Leaf v ∷ more) (Leaf u ∷ rest) = (v ≡ u) × AreItems more rest
     AreItems _ _ = ⊥
 
+    -- `flat` is the flat tree of `written`, and the numbers give the written node of each flat node, a cell's being its list's.
     pub record IsFlatTree : Type 0 where
       pub tree : IsTree flat
       pub each_node : length node_of ≡ length flat

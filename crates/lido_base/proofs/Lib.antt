@@ -4,3 +4,4 @@ pub mod TreeLemmas
 pub mod EquationsLemmas
 pub mod ReachLemmas
 pub mod OriginsLemmas
+pub mod TreeTests

@@ -39,11 +39,11 @@ some_first above (Some p) m h = (p, refl, contains-cons p m (above p) h)
 abbrev climb : {V : Type 0} → Tree V → ℕ → ℕ → List ℕ
 climb t turns n = unroll [] (λ above i. and_above above (parent_of t i)) turns n
 
-both : (a b : Bool) → IsTrue (a && b) → IsTrue a × IsTrue b
+pub both : (a b : Bool) → IsTrue (a && b) → IsTrue a × IsTrue b
 both true b h = (refl, h)
 both false b h = cc
 
-either : (a b : Bool) → IsTrue (a || b) → IsTrue a ⊎ IsTrue b
+pub either : (a b : Bool) → IsTrue (a || b) → IsTrue a ⊎ IsTrue b
 either true b h = inl refl
 either false b h = inr h
 
@@ -67,7 +67,7 @@ test-contains x (y ∷ xs) h = go (contains-cons y x xs h) (test-contains x xs)
         or_true true = refl
         or_true false = refl
 
-is_just-some : (n : ℕ) (o : Option ℕ) → IsTrue (is_just n o) → o ≡ Some n
+pub is_just-some : (n : ℕ) (o : Option ℕ) → IsTrue (is_just n o) → o ≡ Some n
 is_just-some n None h = cc
 is_just-some n (Some m) h = ap Some (eqb-true m n h)
 

@@ -1,0 +1,121 @@
+-- Lists by places and by elements.
+use Rattle.std.specs.Prelude.{Contains, AllPairs, slice_get}
+use Rattle.std.specs.List.{AllZip, slice_index_or}
+use Rattle.std.proofs.Common.{◌≡◌, ℕ, zero, suc, ◌<◌, ◌⊎◌, inl, inr, List, [], ◌∷◌, map, take, Some, refl, arith, ap, sym, subst, ◌∙◌, unwrap_or, drop, ◌++◌, length-append, ◌+◌, length}
+use Rattle.std.proofs.lemmas.List.Elements.{Contains-append_right}
+use Rattle.std.proofs.lemmas.Option.{none-some}
+use Rattle.std.specs.List.Sorted.{IsStrictlyIncreasing}
+use Rattle.std.proofs.lemmas.List.{length-map}
+use Rattle.std.proofs.lemmas.List.Kept.{AllPairs-from_increasing}
+
+pub held : {X : Type 0} {x y : X} → Some x ≡ Some y → x ≡ y
+held {X} {x} {y} e = ap (λ o. unwrap_or o x) e
+
+pub contains-nil : {X : Type 0} (x : X) → Contains [] x → ⊥
+contains-nil x h = absurd (omega (arith, h.1))
+
+pub contains-cons : {X : Type 0} (x y : X) (xs : List X) → Contains (x ∷ xs) y → (x ≡ y) ⊎ Contains xs y
+contains-cons x y xs (zero, h, e) = inl e
+contains-cons x y xs (suc k, h, e) = inr (k, (omega arith), e)
+
+pub contains-first : {X : Type 0} (x : X) (xs : List X) → Contains (x ∷ xs) x
+contains-first x xs = (zero, (omega arith), refl)
+
+pub contains-later : {X : Type 0} (x y : X) (xs : List X) → Contains xs y → Contains (x ∷ xs) y
+contains-later x y xs (k, h, e) = (suc k, (omega arith), e)
+
+-- an element of the list stands at a place
+pub slice_get-contains : {X : Type 0} (xs : List X) (x : X) → Contains xs x → (k : ℕ) × (slice_get xs k ≡ Some x)
+slice_get-contains [] x h = absurd (contains-nil x h)
+slice_get-contains (y ∷ xs) x (zero, h, e) = (zero, ap Some e)
+slice_get-contains (y ∷ xs) x (suc k, h, e) = let p = slice_get-contains xs x (k, (omega arith), e) in (suc p.0, p.1)
+
+pub contains-slice_get : {X : Type 0} (xs : List X) (k : ℕ) (x : X) → slice_get xs k ≡ Some x → Contains xs x
+contains-slice_get [] k x e = absurd (none-some _ e)
+contains-slice_get (y ∷ xs) zero x e = (zero, (omega arith), held e)
+contains-slice_get (y ∷ xs) (suc k) x e = contains-later y x xs (contains-slice_get xs k x e)
+
+-- what stands at a place is among what stands before a later one
+pub contains-take : {X : Type 0} (xs : List X) (k n : ℕ) (x : X) → slice_get xs k ≡ Some x → k < n → Contains (take n xs) x
+contains-take [] k n x e h = absurd (none-some _ e)
+contains-take (y ∷ xs) k zero x e h = absurd (omega (arith, h))
+contains-take (y ∷ xs) zero (suc n) x e h = (zero, (omega arith), held e)
+contains-take (y ∷ xs) (suc k) (suc n) x e h = contains-later y x (take n xs) (contains-take xs k n x e (omega (arith, h)))
+
+pub AllZip-at : {A B : Type 0} (R : A → B → Type 0) (xs : List A) (ys : List B) (i : ℕ) (x : A) (y : B) → AllZip R xs ys → slice_get xs i ≡ Some x → slice_get ys i ≡ Some y → R x y
+AllZip-at R [] ys i x y h e f = absurd (none-some _ e)
+AllZip-at R (a ∷ xs) [] i x y h e f = absurd (none-some _ f)
+AllZip-at R (a ∷ xs) (b ∷ ys) zero x y h e f = subst (λ u. R u y) (held e) (subst (λ v. R a v) (held f) h.0)
+AllZip-at R (a ∷ xs) (b ∷ ys) (suc i) x y h e f = AllZip-at R xs ys i x y h.1 e f
+
+pub slice_get-take : {X : Type 0} (xs : List X) (n i : ℕ) → i < n → slice_get (take n xs) i ≡ slice_get xs i
+slice_get-take xs zero i h = absurd (omega (arith, h))
+slice_get-take [] (suc n) i h = refl
+slice_get-take (x ∷ xs) (suc n) zero h = refl
+slice_get-take (x ∷ xs) (suc n) (suc i) h = slice_get-take xs n i (omega (arith, h))
+
+-- Lists of different numbers in ascending order, with the same elements, are the same list.
+module _ {X : Type 0} (number : X → ℕ) (numbered : (x y : X) → number x ≡ number y → x ≡ y) where
+  -- each element's number is below those of all later ones
+  abbrev Ascends : List X → Type 0
+  Ascends [] = Unit {0}
+  Ascends (x ∷ xs) = ((y : X) → Contains xs y → number x < number y) × Ascends xs
+
+  index-map : (xs : List X) (k : ℕ) (d : X) → slice_index_or (map number xs) k (number d) ≡ number (slice_index_or xs k d)
+  index-map [] k d = refl
+  index-map (x ∷ xs) zero d = refl
+  index-map (x ∷ xs) (suc k) d = index-map xs k d
+
+  ascends-pairs : (xs : List X) → AllPairs (λ x y. x < y) (map number xs) → Ascends xs
+  ascends-pairs [] h = tt
+  ascends-pairs (x ∷ xs) h = (first, ascends-pairs xs (λ i j d a b. h (suc i) (suc j) d (omega arith) (omega arith)))
+    where
+      first : (y : X) → Contains xs y → number x < number y
+      first y (k, m, e) =
+          let l = length-map xs number in
+          let p = h zero (suc k) (number y) (omega arith) (omega arith) in
+          subst (λ n. number x < n) (index-map xs k y ∙ ap number e) p
+
+  among : (x y : X) (ys : List X) → Contains (y ∷ ys) x → number y < number x → Contains ys x
+  among x y ys m h = go (contains-cons y x ys m)
+    where
+      go : (y ≡ x) ⊎ Contains ys x → Contains ys x
+      go (inl e) = let f = ap number e in absurd (omega arith)
+      go (inr k) = k
+
+  same-ascending : (xs ys : List X) → Ascends xs → Ascends ys → ((a : X) → Contains xs a → Contains ys a) → ((a : X) → Contains ys a → Contains xs a) → xs ≡ ys
+  same-ascending [] [] h k to back = refl
+  same-ascending [] (y ∷ ys) h k to back = absurd (contains-nil y (back y (contains-first y ys)))
+  same-ascending (x ∷ xs) [] h k to back = absurd (contains-nil x (to x (contains-first x xs)))
+  same-ascending (x ∷ xs) (y ∷ ys) h k to back =
+      heads (contains-cons y x ys (to x (contains-first x xs))) (contains-cons x y xs (back y (contains-first y ys))) (same-ascending xs ys h.1 k.1)
+    where
+      whole : x ≡ y → (((a : X) → Contains xs a → Contains ys a) → ((a : X) → Contains ys a → Contains xs a) → xs ≡ ys) → (x ∷ xs) ≡ (y ∷ ys)
+      whole e tails = let rest = tails
+          (λ a m. among a y ys (to a (contains-later x a xs m)) (subst (λ n. number n < number a) e (h.0 a m)))
+          (λ a m. among a x xs (back a (contains-later y a ys m)) (subst (λ n. number n < number a) (sym e) (k.0 a m))) in
+          λ i. e i ∷ rest i
+
+      heads : (y ≡ x) ⊎ Contains ys x → (x ≡ y) ⊎ Contains xs y → (((a : X) → Contains xs a → Contains ys a) → ((a : X) → Contains ys a → Contains xs a) → xs ≡ ys) → (x ∷ xs) ≡ (y ∷ ys)
+      heads (inl e) _ tails = whole (sym e) tails
+      heads (inr m) (inl e) tails = whole e tails
+      heads (inr m) (inr n) tails = let p = h.0 y n in let q = k.0 x m in absurd (omega arith)
+
+  pub same-increasing : (xs ys : List X) → IsStrictlyIncreasing (map number xs) → IsStrictlyIncreasing (map number ys) → ((a : X) → Contains xs a → Contains ys a) → ((a : X) → Contains ys a → Contains xs a)
+      → xs ≡ ys
+  same-increasing xs ys h k to back = same-ascending xs ys (ascends-pairs xs (AllPairs-from_increasing _ h)) (ascends-pairs ys (AllPairs-from_increasing _ k)) to back
+
+-- lists as long as each other with the same elements at the same places are the same
+pub same-by-places : {X : Type 0} (xs ys : List X) → length xs ≡ length ys → ((k : ℕ) (x y : X) → slice_get xs k ≡ Some x → slice_get ys k ≡ Some y → x ≡ y) → xs ≡ ys
+same-by-places [] [] e h = refl
+same-by-places [] (y ∷ ys) e h = absurd (omega (arith, e))
+same-by-places (x ∷ xs) [] e h = absurd (omega (arith, e))
+same-by-places (x ∷ xs) (y ∷ ys) e h = let first = h zero x y refl refl in let rest = same-by-places xs ys (omega (arith, e)) (λ k a b f g. h (suc k) a b f g) in λ i. first i ∷ rest i
+
+-- the last item of a list stands in each end of it
+pub last-in-end : {X : Type 0} (xs : List X) (y : X) (ys front : List X) (x : X) → xs ++ (y ∷ ys) ≡ front ++ x ∷ [] → Contains (y ∷ ys) x
+last-in-end [] y ys front x e = subst (λ l. Contains l x) (sym e) (Contains-append_right front (x ∷ []) x (contains-first x []))
+last-in-end (a ∷ xs) y ys [] x e =
+    let f : length (xs ++ (y ∷ ys)) ≡ 0 = ap (λ l. length (drop 1 l)) e in
+    let g : length (xs ++ (y ∷ ys)) ≡ length xs + length (y ∷ ys) = length-append xs (y ∷ ys) in absurd (omega (arith, f, g))
+last-in-end (a ∷ xs) y ys (b ∷ front) x e = last-in-end xs y ys front x (ap (λ l. drop 1 l) e)

@@ -1,0 +1,14 @@
+pub mod Finite
+pub mod TestedTrees
+pub mod TestedGrammars
+pub mod TestedPlans
+pub mod ListOfItems
+pub mod ItemTrees
+pub mod TestedDependencies
+pub mod LateInheritedPlan
+pub mod CrossedUses
+pub mod LateInheritedVisits
+pub mod LateInheritedConstruction
+pub mod PlainGrammars
+pub mod FaultyItems
+pub mod LateInheritedRows

@@ -1,0 +1,4 @@
+pub mod ListOfItems
+pub mod ItemTrees
+pub mod LateInherited
+pub mod CrossedUses

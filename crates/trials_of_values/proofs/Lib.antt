@@ -1,0 +1,2 @@
+pub mod OperationsLemmas
+pub mod BracesLemmas

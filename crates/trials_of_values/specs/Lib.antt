@@ -1,0 +1,4 @@
+pub mod Samples
+pub mod Tables
+pub mod Graphs
+pub mod Systems

@@ -9,3 +9,6 @@ mod symbols;
 
 pub use find::{UnknownSplit, find_split};
 pub use nodes::split;
+
+#[cfg(test)]
+mod tests;

@@ -1,0 +1,4 @@
+pub mod FindLemmas
+pub mod NodesLemmas
+pub mod RegionsLemmas
+pub mod SizesLemmas

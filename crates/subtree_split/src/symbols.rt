@@ -1,0 +1,45 @@
+//! Which symbols are named, and which are cells.
+ghost use Rattle.std.specs.Prelude.{◌≡◌};
+ghost use Rattle.std.specs.List.{list_any};
+ghost use Rattle.flat_grammar.specs.WellFormed.{cell_of as cell_symbol, is_same_symbol};
+ghost use Rattle.flat_grammar.specs.FlatTrees.{is_cell as is_cell_symbol};
+ghost use Rattle.subtree_split.specs.SplitNodes.{is_split_symbol};
+
+use flat_grammar::{Flat, Shape};
+use lido_base::SymId;
+
+/// The first symbol on the right side of the shape's rule: a list's cell.
+fn cell_of(flat: &Flat, shape: &Shape) -> SymId
+    ensures { result ≡ cell_symbol flat.now.symbols flat.now.rules shape.now }
+{
+    flat.rules
+        .as_slice()
+        .get(shape.rule.0 as usize)
+        .and_then(|rule| rule.right.as_slice().get(0))
+        .copied()
+        .unwrap_or(SymId(0))
+}
+
+/// Whether the symbol is the cell of a list.
+pub fn is_cell(flat: &Flat, symbol: SymId) -> bool
+    ensures { result ≡ is_cell_symbol flat.now.symbols flat.now.rules flat.now.shapes symbol }
+{
+    flat.shapes
+        .as_slice()
+        .iter()
+        .any(|shape| shape.list && symbol.0 == cell_of(flat, shape).0)
+}
+
+/// Whether the symbol is among these.
+fn is_among(names: &[SymId], symbol: SymId) -> bool
+    ensures { result ≡ list_any (is_same_symbol symbol) names.now }
+{
+    names.iter().any(|name| symbol.0 == name.0)
+}
+
+/// Whether nodes of the symbol can be split: it is named, and no cell.
+pub fn is_split(flat: &Flat, names: &[SymId], symbol: SymId) -> bool
+    ensures { result ≡ is_split_symbol flat.now.symbols flat.now.rules flat.now.shapes names.now symbol }
+{
+    is_among(names, symbol) && !is_cell(flat, symbol)
+}

@@ -6,7 +6,8 @@ use Rattle.std.proofs.lemmas.Grind.{flat_map-append}
 use Rattle.std.proofs.lemmas.List.{take-append-le, take_more, take-append-drop, append-nil}
 use Rattle.std.specs.List.{flat_map}
 use Rattle.lido_base.specs.declared.whole.WriteFault.{WriteFault}
-use Rattle.order_report.specs.Writing.{Puts, TakesPart, last}
+use Rattle.order_report.specs.Writing.{Puts, PutsPart, last}
+use Rattle.std.specs.Io.KnownBytes.{Appends}
 
 -- nothing is handed over
 pub puts_nothing : (done : ℕ) (old : Option (List ℕ)) (before : ℕ) → done < 2 ^ 64 → Puts done [] old old before before (Ok done)
@@ -32,7 +33,7 @@ then_puts done count a b old mid new before between now (Err e) first second = r
     taken = length a + second.part.taken;
     short = omega (arith, second.part.short, length-append a b);
     bytes = subst (λ (l : List ℕ). Appends old new l) (sym (take-append-add a b second.part.taken)) (Appends-trans old mid new a _ first.all.0 second.part.bytes);
-    count = omega (arith, first.all.1, second.part.count);
+    counted = omega (arith, first.all.1, second.part.counted);
   };
   fault = omega (arith, first.later, second.fault);
   later = omega (arith, first.later, second.later);
@@ -47,7 +48,7 @@ stopped done a b old new before now e first = record {
     taken = first.part.taken;
     short = omega (arith, first.part.short, length-append a b);
     bytes = subst (λ (l : List ℕ). Appends old new l) (sym (take-append-le first.part.taken a b (omega (arith, first.part.short)))) first.part.bytes;
-    count = first.part.count;
+    counted = first.part.counted;
   };
   fault = first.fault;
   later = first.later;
@@ -79,3 +80,7 @@ pub stops_within : {X : Type 0} (f : X → List ℕ) (xs : List X) (i : ℕ) (d 
 stops_within f xs i d inside done count old mid new before between now e first second =
     subst (λ (l : List ℕ). Puts done l old new before now (Err e)) (sym (in_three f xs i d inside))
     (then_puts done count _ _ old mid new before between now (Err e) first (stopped count _ (flat_map f (drop (i + 1) xs)) mid new between now e second))
+
+-- a text and the same text
+pub puts_same : (done : ℕ) (a b : List ℕ) (old new : Option (List ℕ)) (before now : ℕ) (result : Result ℕ WriteFault) → a ≡ b → Puts done a old new before now result → Puts done b old new before now result
+puts_same done a b old new before now result e puts = subst (λ (l : List ℕ). Puts done l old new before now result) e puts

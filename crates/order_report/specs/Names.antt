@@ -1,5 +1,6 @@
 -- The texts that names stand for.
-use Rattle.std.specs.Prelude.{ℕ, List, [], Option, Bor, unwrap_or}
+use Rattle.std.specs.Prelude.{ℕ, List, [], Option, unwrap_or}
+use Rattle.std.specs.Borrow.{Bor}
 use Rattle.std.specs.Option.{option_copied}
 
 -- The texts of the table, if there is one.

@@ -8,16 +8,23 @@ use Rattle.lido_base.specs.declared.whole.WriteFault.{WriteFault}
 abbrev pub last : ℕ
 last = 2 ^ 64 - 1
 
--- The sink took the first bytes of a text and not all; behind `done` other bytes, the count is of all that it took.
-pub record TakesPart (done : ℕ) (text : List ℕ) (old new : Option (List ℕ)) (count : ℕ) : Type 0 where
+-- The sink took the first bytes of a text and not all, and the count is how many, as far as a count goes.
+pub record TakesPart (text : List ℕ) (old new : Option (List ℕ)) (count : ℕ) : Type 0 where
   pub taken : ℕ
   pub short : taken < length text
   pub bytes : Appends old new (take taken text)
-  pub count : count ≡ min (done + taken) last
+  pub counted : count ≡ min taken last
 
--- Behind `done` other bytes, the sink took all of a text, and the count is of all that it took; or it took a part and failed.
+-- The same of a text behind `done` other bytes, where the count is of both.
+pub record PutsPart (done : ℕ) (text : List ℕ) (old new : Option (List ℕ)) (count : ℕ) : Type 0 where
+  pub taken : ℕ
+  pub short : taken < length text
+  pub bytes : Appends old new (take taken text)
+  pub counted : count ≡ min (done + taken) last
+
+-- Behind `done` other bytes the sink took all of a text, and the count is of both; or it took a part, and its faults rose.
 pub record Puts (done : ℕ) (text : List ℕ) (old new : Option (List ℕ)) (before now : ℕ) (result : Result ℕ WriteFault) : Type 0 where
   pub all : IfOk result (λ count. Appends old new text × (count ≡ min (done + length text) last))
-  pub part : IfErr result (λ e. TakesPart done text old new e.written)
+  pub part : IfErr result (λ e. PutsPart done text old new e.written)
   pub fault : OnErr result (Rose before now)
   pub later : before ≤ now

@@ -2,9 +2,11 @@
 #![tactic(auto)]
 
 mod decimal;
+mod lines;
 mod names;
 mod status;
 mod writing;
 
+pub use lines::write_fault;
 pub use names::{Names, RuleNames};
 pub use status::{Status, Which};

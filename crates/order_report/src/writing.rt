@@ -10,7 +10,7 @@ use lido_base::{Sink, StrId, Strings, WriteFault, write_all};
 /// The text of an id.
 pub fn name(strings: Option<&Strings>, id: StrId) -> &[u8]
     requires { IsName (texts_in strings) id }
-    ensures { result.now ≡ name_of (texts_in strings) id }
+    ensures { result.now ≡ name_of (texts_in strings.entry) id }
 {
     match strings {
         Some(strings) => strings.bytes(id),
@@ -36,7 +36,10 @@ fn put_pieces<K: Sink>(sink: &mut K, done: u64, pieces: &[&[u8]]) -> Result<u64,
 {
     let mut count = done;
     for piece in pieces {
-        count = put(sink, count, piece)?;
+        match put(sink, count, piece) {
+            Ok(more) => count = more,
+            Err(fault) => return Err(fault),
+        }
     }
     Ok(count)
 }
@@ -49,11 +52,14 @@ fn put_path<K: Sink>(
     path: &[StrId],
 ) -> Result<u64, WriteFault>
     requires { All (IsName (texts_in strings)) path.now }
-    ensures { Puts done (path_of (texts_in strings) path.now) (K.written sink.old) (K.written sink.new) (K.faults sink.old) (K.faults sink.new) result }
+    ensures { Puts done (path_of (texts_in strings.entry) path.now) (K.written sink.old) (K.written sink.new) (K.faults sink.old) (K.faults sink.new) result }
 {
     let mut count = done;
     for id in path {
-        count = put_pieces(sink, count, &[b" ", name(strings, *id)])?;
+        match put_pieces(sink, count, &[b" ", name(strings, *id)]) {
+            Ok(more) => count = more,
+            Err(fault) => return Err(fault),
+        }
     }
     Ok(count)
 }
@@ -66,10 +72,18 @@ pub fn write_line<K: Sink>(
     path: &[StrId],
 ) -> Result<u64, WriteFault>
     requires { All (IsName (texts_in strings)) path.now }
-    ensures { Puts 0 (line (flat_map (λ word. word.now) words.now) (path_of (texts_in strings) path.now)) (K.written sink.old) (K.written sink.new) (K.faults sink.old) (K.faults sink.new) result }
+    ensures { Puts 0 (line (flat_map (λ word. word.now) words.now) (path_of (texts_in strings.entry) path.now)) (K.written sink.old) (K.written sink.new) (K.faults sink.old) (K.faults sink.new) result }
 {
-    let named = put(sink, 0, b"lido: ")?;
-    let worded = put_pieces(sink, named, words)?;
-    let pathed = put_path(sink, worded, strings, path)?;
-    put(sink, pathed, b"\n")
+    let named = match put(sink, 0, b"lido: ") {
+        Ok(count) => count,
+        Err(fault) => return Err(fault),
+    };
+    let worded = match put_pieces(sink, named, words) {
+        Ok(count) => count,
+        Err(fault) => return Err(fault),
+    };
+    match put_path(sink, worded, strings, path) {
+        Ok(count) => put(sink, count, b"\n"),
+        Err(fault) => Err(fault),
+    }
 }

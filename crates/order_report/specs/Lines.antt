@@ -1,5 +1,5 @@
 -- The line that says how a call ended.
-use Rattle.std.specs.Prelude.{ℕ, ◌<◌, List, [], ◌∷◌, ◌++◌, length, slice_get, unwrap_or, codes, All, Option}
+use Rattle.std.specs.Prelude.{◌≡◌, ℕ, ◌<◌, List, [], ◌∷◌, ◌++◌, length, slice_get, unwrap_or, codes, All, Option}
 use Rattle.std.specs.Fmt.{decimal}
 use Rattle.std.specs.List.{concat, flat_map}
 use Rattle.lido_base.specs.declared.ids.StrId.{StrId}
@@ -95,6 +95,14 @@ abbrev pub HasLine : Status → Type 0
 HasLine status.Done = ⊥
 HasLine (status.WriteFault which.Err written) = ⊥
 HasLine s = Unit {0}
+
+-- The program's name, words, and a line feed.
+abbrev pub IsWhole : List ℕ → Type 0
+IsWhole bytes = (words : List ℕ) × (bytes ≡ codes "lido: " ++ words ++ codes "\n")
+
+-- Each status that has a line has a whole one.
+abbrev pub LinesAreWhole : Type 0
+LinesAreWhole = (texts : List (List ℕ)) (s : Status) → HasLine s → IsWhole (line_of texts s)
 
 -- A text stands for the id.
 abbrev pub IsName : List (List ℕ) → StrId → Type 0

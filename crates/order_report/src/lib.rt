@@ -2,9 +2,12 @@
 #![tactic(auto)]
 
 mod decimal;
+pub mod laws;
 mod lines;
 mod names;
 mod status;
+#[cfg(test)]
+mod tests;
 mod writing;
 
 pub use lines::write_fault;

@@ -1,12 +1,12 @@
 -- Texts that are handed over one after another.
-use Rattle.std.proofs.Common.{◌≡◌, ℕ, ◌+◌, ◌-◌, ◌^◌, ◌<◌, ◌≤◌, min, List, [], ◌∷◌, ◌++◌, length, take, drop, get_or, Option, Result, Ok, Err, ap, sym, ◌∙◌, subst, arith, append_assoc, length-append}
+use Rattle.std.proofs.Common.{◌≡◌, ℕ, ◌+◌, ◌^◌, ◌<◌, List, [], ◌∷◌, ◌++◌, length, take, drop, get_or, Option, Result, Ok, Err, ap, sym, ◌∙◌, subst, arith, append_assoc, length-append}
 use Rattle.std.proofs.KnownBytes.{Appends-trans, Appends-nil}
 use Rattle.std.proofs.Math.Seq.{take-append-add}
 use Rattle.std.proofs.lemmas.Grind.{flat_map-append}
 use Rattle.std.proofs.lemmas.List.{take-append-le, take_more, take-append-drop, append-nil}
 use Rattle.std.specs.List.{flat_map}
 use Rattle.lido_base.specs.declared.whole.WriteFault.{WriteFault}
-use Rattle.order_report.specs.Writing.{Puts, PutsPart, last}
+use Rattle.order_report.specs.Writing.{Puts}
 use Rattle.std.specs.Io.KnownBytes.{Appends}
 
 -- nothing is handed over

@@ -1,0 +1,15 @@
+//! How a call ends, and the line that says so.
+#![tactic(auto)]
+
+mod decimal;
+pub mod laws;
+mod lines;
+mod names;
+mod status;
+#[cfg(test)]
+mod tests;
+mod writing;
+
+pub use lines::write_fault;
+pub use names::{Names, RuleNames};
+pub use status::{Status, Which};

@@ -16,7 +16,7 @@ use tree_store::{Split, Trees};
 const MOST_SPLIT_NODES: usize = 63;
 
 /// Whether a flat node can be split: it stands for a written node of a named symbol, whose subtree has `min` written nodes at
-/// least. `splits` says of each symbol whether it is named, `sizes` of each written node how many nodes its subtree has.
+/// least. `sizes` says of each written node how many nodes its subtree has.
 fn can_split(
     flat: &Flat,
     names: &[SymId],

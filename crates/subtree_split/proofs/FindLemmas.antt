@@ -1,5 +1,5 @@
 -- What an option holds.
-use Rattle.std.specs.Prelude.{true, false, is_some}
+use Rattle.std.specs.Prelude.{false, is_some}
 use Rattle.std.proofs.Common.{◌≡◌, Option, Some, None, refl}
 
 pub one_value : {X : Type 0} (o : Option X) (x y : X) → o ≡ Some x → o ≡ Some y → x ≡ y

@@ -1,7 +1,7 @@
 -- The first numbers of a range that pass a test, found one by one.
 use Rattle.std.specs.Prelude.{Bool, true, false, cond, filter, map}
 use Rattle.std.specs.List.{range_with_len}
-use Rattle.std.proofs.Common.{◌≡◌, ℕ, zero, suc, ◌+◌, ◌-◌, ◌<◌, ◌≤◌, List, [], ◌∷◌, ◌++◌, length, take, min, append-nil, length-append, refl, ap, sym, subst, ◌∙◌, arith}
+use Rattle.std.proofs.Common.{◌≡◌, ℕ, zero, suc, ◌+◌, ◌-◌, ◌<◌, ◌≤◌, List, [], ◌∷◌, ◌++◌, length, take, min, append-nil, length-append, refl, ap, sym, ◌∙◌, arith}
 use Rattle.std.proofs.lemmas.List.{take-append-le, length-map, length-take, take_all}
 use Rattle.std.proofs.lemmas.List.Elements.{filter-append}
 

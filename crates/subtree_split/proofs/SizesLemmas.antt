@@ -1,16 +1,15 @@
 -- The sizes of subtrees, summed up by a walk from the last node to the first.
-use Rattle.std.specs.Prelude.{Contains, Bool, true, false, cond, nat_eq, nat_le, nat_lt, ◌||◌, ◌&&◌, IsTrue, AllPairs, sum_by, sum, map, filter}
-use Rattle.std.specs.List.Sorted.{IsStrictlyIncreasing}
-use Rattle.std.proofs.Common.{◌≡◌, ℕ, zero, suc, ◌+◌, ◌<◌, ◌≤◌, ◌⊎◌, inl, inr, List, [], ◌∷◌, ◌++◌, length, get_or, set, take, Option, Some, None, refl, ap, sym, subst, ◌∙◌, arith}
+use Rattle.std.specs.Prelude.{Contains, Bool, true, false, cond, nat_eq, nat_le, ◌||◌, AllPairs, sum, map, filter}
+use Rattle.std.proofs.Common.{◌≡◌, ℕ, zero, suc, ◌+◌, ◌<◌, ◌≤◌, ◌⊎◌, inl, inr, List, [], ◌∷◌, length, get_or, set, take, Some, refl, ap, sym, subst, ◌∙◌, arith}
 use Rattle.std.proofs.Math.Seq.{take-set-lt, take-suc, take-length}
-use Rattle.std.proofs.lemmas.Bool.{cases_lt, leb-true, le-leb, lt-ltb, leb-false, ne_eqb, eq-eqb}
+use Rattle.std.proofs.lemmas.Bool.{cases_lt, leb-true, le-leb, lt-ltb, ne_eqb, eq-eqb}
 use Rattle.std.proofs.lemmas.Bool.Decides.{eqb_tells}
 use Rattle.std.proofs.lemmas.List.{get_or-set_same, get_or-set_other, get_or-take, length-take, length-replicate}
 use Rattle.std.proofs.lemmas.List.Kept.{AllPairs-from_increasing}
 use Rattle.std.proofs.lemmas.List.Sums.{sum_by-append, sum_by-set}
 use Rattle.std.proofs.lemmas.List.Folds.{sum_by-replicate}
 use Rattle.std.specs.Prelude.{replicate}
-use Rattle.lido_base.specs.Tree.{Tree, IsTree, children, contains, is_just, parent_of, from_children}
+use Rattle.lido_base.specs.Tree.{Tree, IsTree, children, contains, parent_of}
 use Rattle.lido_base.proofs.EquationsLemmas.{contains-later}
 use Rattle.lido_base.proofs.TreeLemmas.{children_behind, from_children-step, parent_before}
 use Rattle.subtree_split.specs.SplitNodes.{subtree_size}

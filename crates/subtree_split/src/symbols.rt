@@ -1,5 +1,5 @@
 //! Which symbols are named, and which are cells.
-ghost use Rattle.std.specs.Prelude.{◌≡◌};
+ghost use Rattle.std.specs.Prelude.{◌≡◌, ℕ, Bool, Some, IfOk, slice_get};
 ghost use Rattle.std.specs.List.{list_any};
 ghost use Rattle.flat_grammar.specs.WellFormed.{cell_of as cell_symbol, is_same_symbol};
 ghost use Rattle.flat_grammar.specs.FlatTrees.{is_cell as is_cell_symbol};
@@ -7,6 +7,7 @@ ghost use Rattle.subtree_split.specs.SplitNodes.{is_split_symbol};
 
 use flat_grammar::{Flat, Shape};
 use lido_base::SymId;
+use std::alloc::{AllocError, Global};
 
 /// The first symbol on the right side of the shape's rule: a list's cell.
 fn cell_of(flat: &Flat, shape: &Shape) -> SymId
@@ -42,4 +43,16 @@ pub fn is_split(flat: &Flat, names: &[SymId], symbol: SymId) -> bool
     ensures { result ≡ is_split_symbol flat.now.symbols flat.now.rules flat.now.shapes names.now symbol }
 {
     is_among(names, symbol) && !is_cell(flat, symbol)
+}
+
+/// Whether nodes of each symbol can be split.
+pub fn split_symbols(alloc: Global, flat: &Flat, names: &[SymId]) -> Result<Vec<bool>, AllocError>
+    ensures { IfOk result (λ splits. (s : ℕ) (splits_s : Bool) → slice_get splits.items s ≡ Some splits_s
+        → splits_s ≡ is_split_symbol flat.now.symbols flat.now.rules flat.now.shapes names.now (record { 0 = s })) }
+{
+    let mut splits = Vec::new(alloc);
+    for s in 0..flat.symbols.len() {
+        splits.push(is_split(flat, names, SymId(s as u16)))?;
+    }
+    Ok(splits)
 }

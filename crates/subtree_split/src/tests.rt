@@ -1,4 +1,4 @@
-//! A tree as deep as a job's can be, with ample memory. (The other tests of the split want a whole grammar, and stand above.)
+//! A tree as deep as a job's can be, with ample memory.
 ghost use Rattle.std.specs.Prelude.{◌≡◌, ◌<◌, IfOk, length};
 ghost use Rattle.lido_base.specs.Tree.{IsTree};
 

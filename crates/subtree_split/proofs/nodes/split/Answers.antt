@@ -1,8 +1,7 @@
 use Rattle.std.specs.Prelude.{Vec}
 use Rattle.std.specs.declared.alloc.Global.{Global}
-use Rattle.std.proofs.Common.{◌≡◌, ◌<◌, ◌-◌, ◌∙◌, ap, sym, subst, arith, map, filter, length}
+use Rattle.std.proofs.Common.{◌<◌, ◌∙◌, ap, sym, subst, arith, map, length}
 use Rattle.std.proofs.lemmas.List.{length-map, map_push}
-use Rattle.std.specs.List.{range_with_len}
 use Rattle.lido_base.specs.declared.ids.NodeId.{NodeId}
 use Rattle.subtree_split.specs.SplitNodes.{is_splittable}
 use Rattle.subtree_split.proofs.NodesLemmas.{found, skipped, full, few_taken}

@@ -1,4 +1,4 @@
-use Rattle.std.proofs.Common.{◌≡◌, ◌∙◌, ◌+◌, ap, sym, arith, map, take, get_or, length}
+use Rattle.std.proofs.Common.{◌∙◌, ◌+◌, ap, sym, arith, map, take, get_or}
 use Rattle.lido_base.specs.declared.ids.NodeId.{NodeId}
 use Rattle.tree_store.specs.Regions.{number_among}
 use Rattle.subtree_split.proofs.RegionsLemmas.{number_step, so_far_push, length-so_far}

@@ -1,4 +1,4 @@
-use Rattle.std.proofs.Common.{◌≡◌, ◌<◌, ◌-◌, ◌+◌, ℕ, Some, ◌∙◌, ap, sym, subst, arith, map, get_or, length}
+use Rattle.std.proofs.Common.{◌≡◌, ◌<◌, ◌-◌, ◌+◌, ℕ, Some, ◌∙◌, sym, subst, arith, map, get_or, length}
 use Rattle.std.proofs.lemmas.List.{length-set}
 use Rattle.lido_base.specs.declared.ids.NodeId.{NodeId}
 use Rattle.lido_base.specs.Tree.{parent_of}

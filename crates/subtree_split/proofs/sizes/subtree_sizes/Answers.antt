@@ -1,7 +1,7 @@
-use Rattle.std.proofs.Common.{◌≡◌, ◌<◌, ◌≤◌, ◌-◌, ◌+◌, ℕ, suc, sym, subst, ◌∙◌, ap, arith, length, get_or, set, take, sum}
+use Rattle.std.proofs.Common.{◌≡◌, ◌<◌, ◌-◌, ℕ, suc, sym, subst, ◌∙◌, ap, arith, length, get_or, take, sum}
 use Rattle.std.specs.Prelude.{replicate}
 use Rattle.std.proofs.lemmas.List.{get_or-replicate, length-replicate}
-use Rattle.lido_base.specs.Tree.{children, parent_of}
+use Rattle.lido_base.specs.Tree.{children}
 use Rattle.subtree_split.specs.SplitNodes.{subtree_size}
 use Rattle.subtree_split.proofs.SizesLemmas.{from_on, size_whole, size_none, step_fits, step_total, step_counted, total_first}
 use Rattle.subtree_split.proofs.sizes.subtree_sizes.Goals as goal

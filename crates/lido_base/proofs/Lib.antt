@@ -3,3 +3,4 @@ pub mod TextsLemmas
 pub mod TreeLemmas
 pub mod EquationsLemmas
 pub mod ReachLemmas
+pub mod OriginsLemmas

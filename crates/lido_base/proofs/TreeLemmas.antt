@@ -1,11 +1,7 @@
 -- What the words on trees compute to.
 use Rattle.std.specs.Prelude.{Contains, Bool, true, false, IsTrue, ◌||◌, ◌&&◌, nat_eq, nat_lt}
 use Rattle.std.proofs.Common.{◌≡◌, ℕ, zero, suc, ◌+◌, ◌-◌, ◌<◌, ◌≤◌, ◌⊎◌, inl, inr, List, [], ◌∷◌, length, Option, Some, None, refl, arith, ap, sym, ◌∙◌, add-one, eqb-true, eq-eqb, ltb-true}
-use Rattle.lido_base.specs.Tree.{Tree, unroll, children, parent_of, and_above, ancestors, from_children, contains, continues, is_just, IsTree}
-
--- a step that asks at a node's children only
-abbrev pub AsksBelow : {V X : Type 0} → Tree V → ((ℕ → X) → ℕ → X) → Type 0
-AsksBelow {X = X} t step = (n : ℕ) (f g : ℕ → X) → ((c : ℕ) → Contains (children t n) c → f c ≡ g c) → step f n ≡ step g n
+use Rattle.lido_base.specs.Tree.{Tree, unroll, children, parent_of, and_above, ancestors, from_children, contains, continues, is_just, AsksBelow, IsTree}
 
 -- each child stands behind its parent and in the table
 abbrev pub ChildrenBehind : {V : Type 0} → Tree V → Type 0
@@ -75,6 +71,12 @@ is_just-some : (n : ℕ) (o : Option ℕ) → IsTrue (is_just n o) → o ≡ Som
 is_just-some n None h = cc
 is_just-some n (Some m) h = ap Some (eqb-true m n h)
 
+-- what has a parent is a node of the table
+inside : {V : Type 0} (t : Tree V) (n p : ℕ) → parent_of t n ≡ Some p → n < length t
+inside [] n p e = cc
+inside (node ∷ t) zero p e = omega arith
+inside (node ∷ t) (suc n) p e = let h = inside t n p e in omega arith
+
 module _ {V : Type 0} (t : Tree V) (w : IsTree t) where
   record Before (n : ℕ) : Type 0 where
     parent : (p : ℕ) → parent_of t n ≡ Some p → p < n
@@ -118,3 +120,38 @@ module _ {V : Type 0} (t : Tree V) (w : IsTree t) where
       let a = both (nat_lt c (length t)) (is_just n (parent_of t c)) (sym (w.items_agree n c) ∙ test-contains c (children t n) m) in
       let inside : c < length t = ltb-true c (length t) a.0 in
       ((before c c (omega arith) inside).parent n (is_just-some n (parent_of t c) a.1), inside)
+
+  -- a parent stands before its children
+  pub parent_before : (n p : ℕ) → parent_of t n ≡ Some p → p < n
+  parent_before n p e = (before n n (omega arith) (inside t n p e)).parent p e
+
+  -- as many turns as there are nodes before this one find all its ancestors
+  climb-same : (j k n : ℕ) → n ≤ j → n ≤ k → climb t j n ≡ climb t k n
+  climb-same zero zero n a b = refl
+  climb-same zero (suc k) n a b = sym (at_root k n (omega arith))
+    where
+      at_root : (k n : ℕ) → n ≤ 0 → climb t (suc k) n ≡ []
+      at_root k zero h = rw w.root_first refl
+      at_root k (suc n) h = absurd (omega arith)
+  climb-same (suc j) zero n a b = at_root j n (omega arith)
+    where
+      at_root : (k n : ℕ) → n ≤ 0 → climb t (suc k) n ≡ []
+      at_root k zero h = rw w.root_first refl
+      at_root k (suc n) h = absurd (omega arith)
+  climb-same (suc j) (suc k) n a b = go (parent_of t n) refl (λ p. climb-same j k p)
+    where
+      go : (o : Option ℕ) → parent_of t n ≡ o → ((p : ℕ) → p ≤ j → p ≤ k → climb t j p ≡ climb t k p) → and_above (climb t j) o ≡ and_above (climb t k) o
+      go None e below = refl
+      go (Some p) e below = let h = parent_before n p e in ap (λ ps. p ∷ ps) (below p (omega arith) (omega arith))
+
+  -- above a node stand its parent and what is above that
+  pub ancestors-child : (n p : ℕ) → parent_of t n ≡ Some p → ancestors t n ≡ p ∷ ancestors t p
+  unfolding ancestors
+  ancestors-child zero p e = cc (w.root_first)
+  ancestors-child (suc n) p e = let h = parent_before (suc n) p e in rw e (ap (λ ps. p ∷ ps) (climb-same n p p (omega arith) (omega arith)))
+
+-- nothing stands above a node without a parent
+pub ancestors-root : {V : Type 0} (t : Tree V) (n : ℕ) → parent_of t n ≡ None → ancestors t n ≡ []
+unfolding ancestors
+ancestors-root t zero e = refl
+ancestors-root t (suc n) e = rw e refl

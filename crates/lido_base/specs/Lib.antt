@@ -9,3 +9,4 @@ pub mod Tree
 pub mod Equations
 pub mod Reach
 pub mod Origins
+pub mod Ranges

@@ -1,5 +1,5 @@
--- What the operations give for plain values. A Bad argument is looked for first, by `operate`.
-use Rattle.std.specs.Prelude.{ℕ, zero, suc, ◌-◌, ◌^◌, ℤ, pos, negsuc, ◌+ℤ◌, ◌-ℤ◌, ◌*ℤ◌, neg_ℤ, int_lt, int_le, int_div, int_rem, Bool, true, false, not, ◌&&◌, ◌||◌, if◌then◌else◌, nat_le, List, [], ◌∷◌, ◌++◌, length, slice_get, unwrap_or, flat_map}
+-- What functions and operators give for plain values, whose texts are whole lists of bytes.
+use Rattle.std.specs.Prelude.{ℕ, zero, suc, ◌-◌, ◌^◌, ℤ, pos, negsuc, ◌+ℤ◌, ◌-ℤ◌, ◌*ℤ◌, neg_ℤ, int_lt, int_le, int_div, int_rem, Bool, true, false, not, ◌&&◌, ◌||◌, if◌then◌else◌, nat_le, List, [], ◌∷◌, ◌++◌, length, Some, None, slice_get, unwrap_or, flat_map}
 use Rattle.std.specs.List.{list_all}
 use Rattle.std.specs.Fmt.{signed_decimal}
 use Rattle.std.specs.Ordering.{int_eq}
@@ -16,52 +16,81 @@ use Rattle.lido_base.specs.declared.pattern.PartPiece.{PartPiece}
 use Rattle.lido_base.specs.declared.pattern.PartPiece.TheVariants.{Fixed, Arg}
 use Rattle.lido_base.specs.Plain.{Plain, Int, Truth, Str, Text, Void, Bad}
 
--- the first Bad among the values, or else what the function gives
+-- The first Bad among the arguments, or else what the function gives: every function evaluates all its arguments, `&&` and
+-- `||` too (our own rule).
 abbrev pub unless_bad : List Plain → Plain → Plain
 unless_bad [] v = v
 unless_bad (Bad o ∷ vs) v = Bad o
 unless_bad (_ ∷ vs) v = unless_bad vs v
 
+-- The value of `IF(c, a, b)`: a Bad condition, or else the value of the branch that it chooses, and of that alone.
+abbrev pub chosen : List Plain → Plain
+chosen (Bad o ∷ more) = Bad o
+chosen (Truth true ∷ a ∷ more) = a
+chosen (Truth false ∷ a ∷ b ∷ more) = b
+chosen _ = Void
+
+-- The last of the values; `ORDER(a, .., z)` is this unless one of them is Bad.
+abbrev pub last : List Plain → Plain
+last [] = Void
+last (v ∷ []) = v
+last (v ∷ w ∷ vs) = last (w ∷ vs)
+
+-- What an attribute or a chain of this type keeps of a value: one of type VOID keeps a Bad alone (LIDO's VOID attributes
+-- have no value but stand for an effect).
+abbrev pub kept : ValueType → Plain → Plain
+kept type.Void (Bad o) = Bad o
+kept type.Void _ = Void
+kept _ v = v
+
 module _ (fails : BadKind → Plain) where
+  -- The int of 64 bits with this value, or Overflow where there is none.
   abbrev pub int : ℤ → Plain
   int z = if int_le (negsuc (2 ^ 63 - 1)) z && int_lt z (pos (2 ^ 63)) then Int z else fails Overflow
 
+  -- A quotient or a remainder; it fails for a zero divisor.
   abbrev pub divided : (ℤ → ℤ → ℤ) → ℤ → ℤ → Plain
   divided by x y = if int_eq y (pos 0) then fails DivideByZero else int (by x y)
 
+  -- The text of these bytes, of which there may be 2^30.
   abbrev pub text : List ℕ → Plain
   text bytes = if nat_le (length bytes) (2 ^ 30) then Text bytes else fails TextTooLong
 
--- the bytes that a value stands for in a text
+-- The bytes that an insertion of the value prints: a number in decimal, a string's and a text's own (PTG).
 abbrev pub printed : Plain → List ℕ
 printed (Int z) = signed_decimal z
 printed (Str bytes) = bytes
 printed (Text bytes) = bytes
 printed _ = []
 
-abbrev pub is_not_empty_text : Plain → Bool
-is_not_empty_text (Text []) = false
-is_not_empty_text _ = true
+-- The argument of this number, counted from 1, as in a pattern's `$1`.
+abbrev pub argument : List Plain → ℕ → Plain
+argument args zero = Void
+argument args (suc k) = unwrap_or (slice_get args k) Void
 
--- the part is no insertion of an empty text
+abbrev pub is_empty_text : Plain → Bool
+is_empty_text (Text []) = true
+is_empty_text _ = false
+
+-- The part inserts no empty text; strings and numbers are no texts.
 abbrev pub is_filled : List Plain → Part → Bool
-is_filled args part = elim part.piece [ Fixed s ↦ true | Arg k ↦ is_not_empty_text (unwrap_or (slice_get args (k - 1)) Void) ]
+is_filled args part = elim part.piece [ Fixed s ↦ true | Arg k ↦ not (is_empty_text (argument args k)) ]
 
 module _ (texts : List (List ℕ)) where
   abbrev pub piece_bytes : List Plain → PartPiece → List ℕ
   piece_bytes args (Fixed s) = unwrap_or (slice_get texts s.0) []
-  piece_bytes args (Arg k) = printed (unwrap_or (slice_get args (k - 1)) Void)
+  piece_bytes args (Arg k) = printed (argument args k)
 
+  -- What a part prints: one in braces prints nothing where an inserted text of the pattern is empty.
   abbrev pub part_bytes : Bool → List Plain → Part → List ℕ
   part_bytes all_filled args part = if not part.brace || all_filled then piece_bytes args part.piece else []
 
+  -- What a pattern prints for its arguments: its parts in order (PTG; the rule of the braces is our own).
   abbrev pub pattern_bytes : List Pattern → ℕ → List Plain → List ℕ
-  pattern_bytes [] k args = []
-  pattern_bytes (pattern ∷ more) zero args = flat_map (part_bytes (list_all (is_filled args) pattern.parts) args) pattern.parts
-  pattern_bytes (pattern ∷ more) (suc k) args = pattern_bytes more k args
+  pattern_bytes patterns k args = elim (slice_get patterns k) [ None ↦ [] | Some pattern ↦ flat_map (part_bytes (list_all (is_filled args) pattern.parts) args) pattern.parts ]
 
   module _ (patterns : List Pattern) (fails : BadKind → Plain) where
-    -- arguments that do not fit give Void
+    -- What an operation gives for arguments of which none is Bad. Arguments that do not fit give Void.
     abbrev pub applied : Op → List Plain → Plain
     applied op.Add (Int x ∷ Int y ∷ []) = int fails (x +ℤ y)
     applied op.Sub (Int x ∷ Int y ∷ []) = int fails (x -ℤ y)
@@ -93,11 +122,7 @@ module _ (texts : List (List ℕ)) where
     applied (op.Pattern k) args = text fails (pattern_bytes patterns k args)
     applied _ _ = Void
 
+    -- What a call of an operation gives: the first Bad argument, or else its own value. `fails` says which origin a
+    -- failure of its own has.
     unfoldable pub operate : Op → List Plain → Plain
     operate o args = unless_bad args (applied o args)
-
--- what a place of this type keeps of a value: a VOID one keeps a Bad alone
-abbrev pub kept : ValueType → Plain → Plain
-kept type.Void (Bad o) = Bad o
-kept type.Void _ = Void
-kept _ v = v

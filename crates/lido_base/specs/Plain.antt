@@ -1,10 +1,11 @@
--- Plain values: no id, descriptor or cell stands in them.
+-- Plain values and plain trees, over which meaning is defined: no id, descriptor or room stands in them.
 use Rattle.std.specs.Prelude.{ℕ, ℤ, Bool, List, [], map, Option, Some, None, slice_get, unwrap_or}
 use Rattle.lido_base.specs.declared.value.Value.{Value}
 use Rattle.lido_base.specs.declared.value.Value.TheVariants as value
 use Rattle.lido_base.specs.Tree.{Tree, Item, Child, Leaf}
 use Rattle.lido_base.specs.declared.value.Origin.{Origin}
 
+-- An int, a bool, a string and a built text as bytes, Void, or Bad with where and why an operation failed first.
 pub data Plain : Type 0 where
   Int : ℤ → Plain
   Truth : Bool → Plain
@@ -13,13 +14,14 @@ pub data Plain : Type 0 where
   Void : Plain
   Bad : Origin → Plain
 
--- where a value went wrong, if it did
+-- Where the value went wrong, if it did.
 abbrev pub fault_of : Plain → Option Origin
 fault_of (Bad o) = Some o
 fault_of _ = None
 
--- The plain value of a constant or a terminal. Its only text is the empty one.
 module _ (texts : List (List ℕ)) where
+  -- The plain value of a constant or a terminal, the texts being those of the ids. The empty text is the only built text
+  -- among constants, and terminals are ints and strings.
   abbrev pub plain : Value → Plain
   plain (value.Int z) = Int z
   plain (value.Bool b) = Truth b
@@ -32,5 +34,6 @@ module _ (texts : List (List ℕ)) where
   plain_item (Child c) = Child c
   plain_item (Leaf v) = Leaf (plain v)
 
+  -- The tree with plain terminals.
   abbrev pub plain_tree : Tree Value → Tree Plain
   plain_tree t = map (λ node. record { rule = node.rule; parent = node.parent; place = node.place; items = map plain_item node.items }) t

@@ -2,8 +2,10 @@
 #![tactic(auto)]
 
 mod boxed;
+mod contents;
 mod ids;
 mod kinds;
+pub mod laws;
 mod list;
 mod mem_sink;
 mod mem_source;
@@ -15,6 +17,7 @@ mod value;
 mod whole;
 
 pub use boxed::Boxed;
+pub use contents::Contents;
 pub use ids::{AttrId, NodeId, RuleId, StrId, SymId};
 pub use kinds::{Kind, Many, WordKind};
 pub use list::List;
@@ -23,6 +26,6 @@ pub use mem_source::MemSource;
 pub use operation::Op;
 pub use outside::{Failed, Gate, Memory, OpenGate, Sink, Source};
 pub use pattern::{Part, PartPiece, Pattern, Patterns, Piece};
-pub use strings::{Strings, TextHash};
+pub use strings::Strings;
 pub use value::{BadKind, Desc, EMPTY, Origin, Value, ValueType};
 pub use whole::{ReadAllFault, WriteFault, read_all, write_all};

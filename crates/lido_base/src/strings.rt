@@ -1,4 +1,4 @@
-//! The texts of a run, each once.
+//! The texts of a run, each with an id.
 ghost use Rattle.std.specs.Prelude.{◌≡◌, Some, [], ◌<◌, ◌^◌, length, slice_get, IfOk, OnOk, OnErr};
 ghost use Rattle.lido_base.specs.Texts.{IsDistinctTexts, with_text};
 
@@ -10,12 +10,12 @@ use std::marker::Model;
 
 /// Makes each hasher as a copy of one that was fed a key.
 #[derive(Clone, Copy)]
-pub struct TextHash {
+struct TextHash {
     start: DefaultHasher,
 }
 
 impl TextHash {
-    pub fn new(key: &[u8]) -> TextHash {
+    fn new(key: &[u8]) -> TextHash {
         let mut start = DefaultHasher::new();
         start.write(key);
         TextHash { start }
@@ -32,7 +32,9 @@ impl BuildHasher for TextHash {
     }
 }
 
-/// Distinct texts, in the order of first sight. The id of a text is its place.
+/// Distinct texts in the order of first sight, at most 2^32 of them. The id of a text is its place, from 0.
+///
+/// Contracts see a table as the list of its texts.
 #[derive(Drop)]
 pub struct Strings {
     set: IndexSet<Vec<u8>, TextHash>,
@@ -50,20 +52,34 @@ impl Model for Strings {
 }
 
 impl Strings {
-    /// No texts.
+    /// A table without texts, for texts that can be trusted. It takes no memory, and answers no `Err` today.
     pub fn new(alloc: Global) -> Result<Strings, Memory>
         ensures { IfOk result (λ s. s ≡ []) }
     {
         Ok(Strings::keyed(alloc, &[]))
     }
 
-    /// No texts. Who does not know the key cannot pick texts that make `intern` slow.
+    /// A table without texts whose hashes depend on a key. It takes no memory.
+    ///
+    /// `intern` hashes its texts. With hashes that are known beforehand, a hostile job could choose 80,000 names whose
+    /// hashes collide, and each new name would be compared with all of them: the time would grow with the square of their
+    /// number. Who does not know the key cannot choose such names. No clause speaks of the key, nor of time.
     pub fn keyed(alloc: Global, key: &[u8]) -> Strings
         ensures { result ≡ [] }
     {
         Strings {
             set: IndexSet::with_hasher(alloc, TextHash::new(key)),
         }
+    }
+
+    /// A table without texts, keyed by the whole text of a job. It takes no memory.
+    ///
+    /// The key is a digest of 128 bits. The job's names are part of the text, so who changes them to fit a key changes the
+    /// key with them; and the same job gives the same key in every run.
+    pub fn keyed_by(alloc: Global, text: &[u8]) -> Strings
+        ensures { result ≡ [] }
+    {
+        Strings::keyed(alloc, &text_key(text))
     }
 
     /// How many texts stand here.
@@ -74,7 +90,8 @@ impl Strings {
         self.set.len()
     }
 
-    /// The id of a text, which is added if it is new.
+    /// The id of a text. A new text is added behind the others, and the others keep their ids; a text that stands here
+    /// keeps its id. `Err` is want of memory, or of an id: there are 2^32 of them. The table is then as before.
     pub fn intern(&mut self, text: &[u8]) -> Result<StrId, Memory>
         ensures id { IfOk result (λ id. slice_get self.new id.0 ≡ Some text.now) }
         ensures texts { OnOk result (self.new ≡ with_text self.old text.now) }
@@ -90,13 +107,27 @@ impl Strings {
         Ok(id)
     }
 
-    /// The text of an id.
+    /// The text of an id that this table gave.
     pub fn bytes(&self, id: StrId) -> &[u8]
         requires { id.0 < length self.now }
         ensures { slice_get self.now id.0 ≡ Some result.now }
     {
         self.set.as_slice()[id.0 as usize].as_slice()
     }
+}
+
+/// A digest of 128 bits of a text: its SipHash behind two different prefixes.
+fn text_key(text: &[u8]) -> [u8; 16] {
+    let low = digest(&[0], text);
+    let high = digest(&[1], text);
+    (u128::from(high) << 64 | u128::from(low)).to_le_bytes()
+}
+
+fn digest(prefix: &[u8], text: &[u8]) -> u64 {
+    let mut hasher = DefaultHasher::new();
+    hasher.write(prefix);
+    hasher.write(text);
+    hasher.finish()
 }
 
 fn u32_id(index: usize) -> Result<StrId, Memory>

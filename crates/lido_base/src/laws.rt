@@ -1,0 +1,78 @@
+//! Laws of the definitions. Each function does nothing; what is proved is its contract.
+ghost use Rattle.std.specs.Prelude.{◌≡◌, ◌<◌, ◌≤◌, ◌+◌, ◌⊎◌, ◌↔◌, [], ◌∷◌, Bool, Contains, IsTrue, List, ℕ, Some, None, length, slice_get};
+ghost use Rattle.lido_base.specs.Equations.{IsOrdered, HasOneSolution};
+ghost use Rattle.lido_base.specs.Origins.{IsAtMost};
+ghost use Rattle.lido_base.specs.Reach.{Reaches, IsClosed, IsWithin, IsDecided, IsPath, IsLeastPath};
+ghost use Rattle.lido_base.specs.Texts.{IsDistinctTexts, with_text};
+ghost use Rattle.lido_base.specs.Tree.{Tree, IsTree, AsksBelow, ancestors, children, from_children, parent_of};
+ghost use Rattle.lido_base.specs.declared.value.Origin.{Origin};
+
+/// In a table of distinct texts, equal texts have equal ids, and one id has one text.
+pub fn equal_texts_have_equal_ids()
+    ensures same_id { (texts : List (List ℕ)) (i j : ℕ) (text : List ℕ) → IsDistinctTexts texts
+        → slice_get texts i ≡ Some text → slice_get texts j ≡ Some text → i ≡ j }
+    ensures same_text { (texts : List (List ℕ)) (i : ℕ) (text other : List ℕ)
+        → slice_get texts i ≡ Some text → slice_get texts i ≡ Some other → text ≡ other }
+{}
+
+/// Interning adds one text at most, keeps the texts distinct, and each earlier id keeps its text.
+pub fn earlier_ids_keep_their_texts()
+    ensures kept { (texts : List (List ℕ)) (new earlier : List ℕ) (i : ℕ)
+        → slice_get texts i ≡ Some earlier → slice_get (with_text texts new) i ≡ Some earlier }
+    ensures one_more { (texts : List (List ℕ)) (new : List ℕ)
+        → length (with_text texts new) ≤ length texts + 1 }
+    ensures distinct { (texts : List (List ℕ)) (new : List ℕ)
+        → IsDistinctTexts texts → IsDistinctTexts (with_text texts new) }
+{}
+
+/// Equations whose unknowns can be put in an order in which each is computed from earlier ones alone have exactly one
+/// solution. Unknowns are compared by a test.
+pub fn ordered_equations_have_one_solution<I, X>()
+    ensures { (same : I → I → Bool) → ((i j : I) → IsTrue (same i j) ↔ (i ≡ j))
+        → (nothing : X) (step : (I → X) → I → X) (unknowns : List I)
+        → IsOrdered nothing step unknowns → HasOneSolution nothing step unknowns }
+{}
+
+/// The vertices from which a source can be reached are the least set that is closed: each test whose set is closed holds
+/// there. They are those with a path to a source. In a finite graph there is a test for them.
+pub fn reaching_is_least_and_decided()
+    ensures closed { (is_source : ℕ → Bool) (is_edge : ℕ → ℕ → Bool)
+        → IsClosed is_source is_edge (Reaches is_source is_edge) }
+    ensures least { (is_source : ℕ → Bool) (is_edge : ℕ → ℕ → Bool) (test : ℕ → Bool)
+        → IsClosed is_source is_edge (λ n. IsTrue (test n))
+        → (n : ℕ) → Reaches is_source is_edge n → IsTrue (test n) }
+    ensures by_path { (is_source : ℕ → Bool) (is_edge : ℕ → ℕ → Bool) (n : ℕ)
+        → Reaches is_source is_edge n ↔ ((rest : List ℕ) × IsPath is_source is_edge (n ∷ rest)) }
+    ensures decided { (is_source : ℕ → Bool) (is_edge : ℕ → ℕ → Bool) (universe : List ℕ)
+        → IsWithin universe is_source is_edge → IsDecided is_source is_edge }
+{}
+
+/// A vertex has one least path to a source at most.
+pub fn one_least_path()
+    ensures { (is_source : ℕ → Bool) (is_edge : ℕ → ℕ → Bool) (s : ℕ) (rest other : List ℕ)
+        → IsLeastPath is_source is_edge s rest → IsLeastPath is_source is_edge s other → rest ≡ other }
+{}
+
+/// Above a node of a tree stand its parent and what is above that one; above a node without a parent stands nothing.
+pub fn ancestors_step_by_step<V>()
+    ensures root { (t : Tree V) (n : ℕ) → parent_of t n ≡ None → ancestors t n ≡ [] }
+    ensures child { (t : Tree V) (n p : ℕ) → IsTree t → parent_of t n ≡ Some p
+        → ancestors t n ≡ p ∷ ancestors t p }
+{}
+
+/// Over a tree, a step that asks at a node's children alone has exactly one function.
+pub fn one_function_from_children<V, X>()
+    ensures step { (t : Tree V) (nothing : X) (step : (ℕ → X) → ℕ → X) → IsTree t → AsksBelow t step
+        → (n : ℕ) → n < length t
+        → from_children t nothing step n ≡ step (from_children t nothing step) n }
+    ensures only { (t : Tree V) (nothing : X) (step : (ℕ → X) → ℕ → X) → IsTree t → AsksBelow t step
+        → (f : ℕ → X) → ((n : ℕ) → n < length t → f n ≡ step f n)
+        → (n : ℕ) → n < length t → f n ≡ from_children t nothing step n }
+{}
+
+/// Of two origins one is at most the other; the order is transitive, and only equal origins are at most each other.
+pub fn origins_are_in_order()
+    ensures total { (o p : Origin) → IsAtMost o p ⊎ IsAtMost p o }
+    ensures transitive { (o p q : Origin) → IsAtMost o p → IsAtMost p q → IsAtMost o q }
+    ensures antisymmetric { (o p : Origin) → IsAtMost o p → IsAtMost p o → o ≡ p }
+{}

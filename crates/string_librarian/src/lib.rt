@@ -1,0 +1,10 @@
+//! Rooms in which built texts are kept as deposits, and the library that writes them. A text is a deposit: what makes it, of
+//! which arguments, and how many bytes it has. No text is copied before it is written.
+#![tactic(auto)]
+
+pub mod laws;
+mod library;
+mod room;
+
+pub use library::{Library, Stack};
+pub use room::Room;

@@ -2,9 +2,11 @@
 //! which arguments, and how many bytes it has. No text is copied before it is written.
 #![tactic(auto)]
 
+mod decimal;
 pub mod laws;
 mod library;
 mod room;
 
+pub use decimal::Decimal;
 pub use library::{Library, Stack};
 pub use room::Room;

@@ -114,3 +114,8 @@ pub last_denotes : (texts : List (List ℕ)) (patterns : List Pattern) (rooms : 
 last_denotes texts patterns rooms room before deposit d bytes here parts place same_len makes size =
     built {d = d} {deposit = deposit} (record { room = room; in_room = here; before = before; after = []; parts = parts; place = place; same_len = same_len })
     makes.reading makes.below makes.made size
+
+-- a descriptor's text is as long as it says
+pub text_length : (texts : List (List ℕ)) (patterns : List Pattern) (rooms : List RoomState) (d : Desc) (t : List ℕ) → Denotes texts patterns rooms d t → length t ≡ d.len
+text_length texts patterns rooms d t (empty) = refl
+text_length texts patterns rooms d t (built at reading below made size) = size ∙ sym at.same_len

@@ -1,3 +1,4 @@
 pub mod CellsLemmas
 pub mod DenotesLemmas
 pub mod DecimalLemmas
+pub mod PartsLemmas

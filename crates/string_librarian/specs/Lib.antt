@@ -1,3 +1,4 @@
 pub mod Rooms
 pub mod Denotes
 pub mod Cells
+pub mod Parts

@@ -1,5 +1,5 @@
 //! Laws of the definitions. Each function does nothing; what is proved is its contract.
-ghost use Rattle.std.specs.Prelude.{◌≡◌, List, ℕ};
+ghost use Rattle.std.specs.Prelude.{◌≡◌, List, ℕ, length};
 ghost use Rattle.lido_base.specs.declared.pattern.Pattern.{Pattern};
 ghost use Rattle.lido_base.specs.declared.value.Desc.{Desc};
 ghost use Rattle.string_librarian.specs.Denotes.{Denotes};
@@ -9,6 +9,12 @@ ghost use Rattle.string_librarian.specs.Rooms.{RoomState, HaveGrown};
 pub fn one_text_at_most()
     ensures { (texts : List (List ℕ)) (patterns : List Pattern) (rooms : List RoomState) (d : Desc) (bytes other : List ℕ)
         → Denotes texts patterns rooms d bytes → Denotes texts patterns rooms d other → bytes ≡ other }
+{}
+
+/// A descriptor has the length of the text that it denotes.
+pub fn descriptors_have_lengths()
+    ensures { (texts : List (List ℕ)) (patterns : List Pattern) (rooms : List RoomState) (d : Desc) (bytes : List ℕ)
+        → Denotes texts patterns rooms d bytes → length bytes ≡ d.len }
 {}
 
 /// What a descriptor denotes depends on nothing but deposits: where rooms are added, or deposits behind those of a room, it

@@ -5,8 +5,10 @@
 mod decimal;
 pub mod laws;
 mod library;
+mod parts;
 mod room;
 
 pub use decimal::Decimal;
 pub use library::{Library, Stack};
+pub use parts::{bytes_of, parts_of};
 pub use room::Room;

@@ -119,3 +119,9 @@ last_denotes texts patterns rooms room before deposit d bytes here parts place s
 pub text_length : (texts : List (List ℕ)) (patterns : List Pattern) (rooms : List RoomState) (d : Desc) (t : List ℕ) → Denotes texts patterns rooms d t → length t ≡ d.len
 text_length texts patterns rooms d t (empty) = refl
 text_length texts patterns rooms d t (built at reading below made size) = size ∙ sym at.same_len
+
+-- a room put in its own place changes nothing
+pub unchanged_room : (texts : List (List ℕ)) (patterns : List Pattern) (rooms : List RoomState) (room : RoomState) (d : Desc) (bytes : List ℕ)
+    → slice_get rooms room.number ≡ Some room → Denotes texts patterns rooms d bytes → Denotes texts patterns (slice_set rooms room.number room) d bytes
+unchanged_room texts patterns rooms room d bytes here denotes =
+    kept_text texts patterns rooms _ (one_room_grew rooms room.number room room [] here (append_nil room.deposits)) d bytes denotes

@@ -1,5 +1,8 @@
 -- Deposits in cells: what was put in is what is found.
-use Rattle.std.proofs.Common.{◌≡◌, ◌+◌, List, [], ◌∷◌, ◌++◌, length, map, take, refl, sym, ap, ◌∙◌, arith, append_assoc, length-append}
+use Rattle.std.proofs.Common.{◌≡◌, ℕ, ◌+◌, List, [], ◌∷◌, ◌++◌, length, map, take, refl, sym, ap, ◌∙◌, arith, append_assoc, length-append, zero-add, zero, suc, ◌<◌, ◌≤◌, slice_get, unwrap_or, Some}
+use Rattle.std.proofs.lemmas.Option.{slice_get_past}
+use Rattle.lido_base.specs.declared.value.Value.TheVariants as value
+use Rattle.string_librarian.specs.Parts.{argument_of}
 use Rattle.std.proofs.lemmas.List.{length-map}
 use Rattle.lido_base.specs.declared.value.Value.{Value}
 use Rattle.string_librarian.specs.declared.room.Cell.{Cell}
@@ -70,3 +73,37 @@ stored old mid new d whole first second =
       size = omega (arith, ap length is, length-append old (head ∷ map cell.Arg d.args), length-map d.args cell.Arg);
       place = ap length whole ∙ length-cells_for (deposits_of old);
     }
+
+cells_of-cells : (before : List Deposit) (d : Deposit) (after : List Deposit) (k : ℕ) → slice_get (cells_for (before ++ d ∷ after)) (cells_of before + k) ≡ slice_get (cells_for (d ∷ after)) k
+cells_of-cells before d after k =
+    ap (λ cs. slice_get cs (cells_of before + k)) (cells_for-append before (d ∷ after))
+    ∙ ap (λ n. slice_get (cells_for before ++ cells_for (d ∷ after)) (n + k)) (sym (length-cells_for before))
+    ∙ slice_get_behind (cells_for before) (cells_for (d ∷ after)) k
+  where
+    step : (n k : ℕ) → suc n + k ≡ suc (n + k)
+    step n k = omega arith
+
+    slice_get_behind : {X : Type 0} (xs ys : List X) (k : ℕ) → slice_get (xs ++ ys) (length xs + k) ≡ slice_get ys k
+    slice_get_behind [] ys k = ap (λ n. slice_get ys n) (zero-add k)
+    slice_get_behind (x ∷ xs) ys k = ap (λ n. slice_get (x ∷ (xs ++ ys)) n) (step (length xs) k) ∙ slice_get_behind xs ys k
+
+-- the cell so many behind the head of a deposit
+pub cell_behind : (cs : List Cell) (before : List Deposit) (d : Deposit) (after : List Deposit) (n k : ℕ) → cs ≡ cells_for (deposits_of cs)
+    → deposits_of cs ≡ before ++ d ∷ after → n ≡ cells_of before + k → slice_get cs n ≡ slice_get (cells_for (d ∷ after)) k
+cell_behind cs before d after n k whole parts place =
+    ap (λ c. slice_get c n) (whole ∙ ap cells_for parts) ∙ ap (λ m. slice_get (cells_for (before ++ d ∷ after)) m) place ∙ cells_of-cells before d after k
+
+arg_at : (args : List Value) (cs : List Cell) (j : ℕ) → j < length args → slice_get (map cell.Arg args ++ cs) j ≡ Some (cell.Arg (unwrap_or (slice_get args j) value.Void))
+arg_at [] cs j h = absurd (omega arith)
+arg_at (v ∷ vs) cs zero h = refl
+arg_at (v ∷ vs) cs (suc j) h = arg_at vs cs j (omega arith)
+
+-- the cell of an argument
+pub arg_cell : (d : Deposit) (after : List Deposit) (n : ℕ) → (n ≡ 0 → ⊥) → n ≤ length d.args → slice_get (cells_for (d ∷ after)) n ≡ Some (cell.Arg (argument_of d.args n))
+arg_cell d after zero some h = absurd (some refl)
+arg_cell d after (suc j) some h = arg_at d.args (cells_for after) j (omega arith)
+
+-- there are no arguments but these
+pub arg_past : (args : List Value) (n : ℕ) → length args < n → argument_of args n ≡ value.Void
+arg_past args zero h = refl
+arg_past args (suc j) h = ap (λ o. unwrap_or o value.Void) (slice_get_past args j (omega arith))

@@ -12,7 +12,7 @@ use Rattle.string_librarian.specs.Rooms.{RoomState, Deposit, IsAt, HaveGrown, ce
 use Rattle.string_librarian.specs.Denotes.{Denotes, empty, built, Makes, meaning, read_by}
 
 -- two places with as many cells before them are one
-same_place : (before other after behind : List Deposit) (d e : Deposit) → before ++ d ∷ after ≡ other ++ e ∷ behind → cells_of before ≡ cells_of other → d ≡ e
+pub same_place : (before other after behind : List Deposit) (d e : Deposit) → before ++ d ∷ after ≡ other ++ e ∷ behind → cells_of before ≡ cells_of other → d ≡ e
 same_place [] [] after behind d e p q = cc
 same_place [] (x ∷ other) after behind d e p q = absurd (omega arith)
 same_place (x ∷ before) [] after behind d e p q = absurd (omega arith)

@@ -2,3 +2,6 @@ pub mod CellsLemmas
 pub mod DenotesLemmas
 pub mod DecimalLemmas
 pub mod PartsLemmas
+pub mod StepsLemmas
+pub mod PrintingLemmas
+pub mod ShownLemmas

@@ -39,3 +39,8 @@ HaveGrown old new = (k : ℕ) (room : RoomState) → slice_get old k ≡ Some ro
 -- Room k has number k.
 abbrev pub AreNumbered : List RoomState → Type 0
 AreNumbered rooms = (k : ℕ) (room : RoomState) → slice_get rooms k ≡ Some room → room.number ≡ k
+
+-- The cells that the deposits of all rooms use.
+abbrev pub all_cells : List RoomState → ℕ
+all_cells [] = 0
+all_cells (room ∷ rooms) = cells_of room.deposits + all_cells rooms

@@ -6,6 +6,7 @@ mod decimal;
 pub mod laws;
 mod library;
 mod parts;
+mod printing;
 mod room;
 
 pub use decimal::Decimal;

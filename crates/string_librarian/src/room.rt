@@ -2,7 +2,9 @@
 ghost use Rattle.std.specs.Prelude.{◌≡◌, ◌+◌, ◌-◌, ◌≤◌, [], ◌∷◌, ◌++◌, IfOk, List, ℕ, Some, map, length, slice_get, slice_set, vec_len, vec_capacity};
 ghost use Rattle.lido_base.specs.declared.value.Desc.{Desc as Descriptor};
 ghost use Rattle.lido_base.specs.declared.pattern.Pattern.{Pattern as TextPattern};
-ghost use Rattle.string_librarian.specs.Rooms.{RoomState, cells_of};
+ghost use Rattle.string_librarian.specs.Parts.{argument_of};
+ghost use Rattle.string_librarian.specs.Rooms.{Deposit as Deposited, RoomState, cells_of};
+ghost use Rattle.string_librarian.specs.Cells.{cells_for};
 ghost use Rattle.string_librarian.specs.Denotes.{Denotes, Makes};
 ghost use Rattle.string_librarian.specs.declared.room.Cell.TheVariants.{Arg};
 
@@ -84,6 +86,58 @@ impl Room {
             room: self.number,
             node,
             len,
+        }
+    }
+}
+
+impl Room {
+    /// The cell so many behind the head of the deposit at this place.
+    fn cell(&self, node: u32, behind: u32) -> Option<Cell>
+        ensures { (before after : List Deposited) (d : Deposited) → self.now.deposits ≡ before ++ d ∷ after → node ≡ 1 + cells_of before
+            → result ≡ slice_get (cells_for (d ∷ after)) behind }
+    {
+        if node == 0 {
+            return None;
+        }
+        match self.cells.get((node as usize - 1) + behind as usize) {
+            Some(cell) => Some(*cell),
+            None => None,
+        }
+    }
+
+    /// What makes the text of the deposit at this place.
+    pub fn piece(&self, node: u32) -> Option<Piece>
+        ensures { (before after : List Deposited) (d : Deposited) → self.now.deposits ≡ before ++ d ∷ after → node ≡ 1 + cells_of before
+            → result ≡ Some d.piece }
+    {
+        match self.cell(node, 0) {
+            Some(Cell::Deposit(head)) => Some(head.piece),
+            _ => None,
+        }
+    }
+
+    /// How many arguments the deposit at this place has.
+    fn count(&self, node: u32) -> u32
+        ensures { (before after : List Deposited) (d : Deposited) → self.now.deposits ≡ before ++ d ∷ after → node ≡ 1 + cells_of before
+            → result ≡ length d.args }
+    {
+        match self.cell(node, 0) {
+            Some(Cell::Deposit(head)) => head.args,
+            _ => 0,
+        }
+    }
+
+    /// The argument of this number, from 1, of the deposit at this place.
+    pub fn argument(&self, node: u32, number: u32) -> Value
+        ensures { (before after : List Deposited) (d : Deposited) → self.now.deposits ≡ before ++ d ∷ after → node ≡ 1 + cells_of before
+            → result ≡ argument_of d.args number }
+    {
+        if number == 0 || self.count(node) < number {
+            return Value::Void;
+        }
+        match self.cell(node, number) {
+            Some(Cell::Arg(value)) => value,
+            _ => Value::Void,
         }
     }
 }

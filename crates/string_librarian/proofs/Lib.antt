@@ -5,3 +5,4 @@ pub mod PartsLemmas
 pub mod StepsLemmas
 pub mod PrintingLemmas
 pub mod ShownLemmas
+pub mod WritingLemmas

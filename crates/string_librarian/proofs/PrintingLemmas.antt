@@ -1,15 +1,12 @@
 -- What is left to print, once a step was taken.
-use Rattle.std.specs.Prelude.{Contains}
-use Rattle.std.proofs.Common.{◌≡◌, ℕ, zero, suc, ◌+◌, ◌-◌, ◌<◌, ◌≤◌, Bool, true, false, List, [], ◌∷◌, ◌++◌, Option, Some, None, length, map, drop, flat_map, slice_get, refl, sym, ap, subst, ◌∙◌, arith, append_assoc, append-nil}
-use Rattle.lido_base.specs.declared.value.Value.{Value}
-use Rattle.lido_base.specs.declared.value.Value.TheVariants as value
+use Rattle.std.proofs.Common.{◌≡◌, ℕ, suc, ◌+◌, ◌-◌, ◌<◌, ◌≤◌, List, [], ◌∷◌, ◌++◌, length, refl, sym, ap, subst, ◌∙◌, arith, append_assoc, append-nil}
 use Rattle.lido_base.specs.declared.value.Desc.{Desc}
 use Rattle.lido_base.specs.declared.pattern.Pattern.{Pattern}
 use Rattle.string_librarian.specs.declared.printing.Pending.{Pending}
 use Rattle.string_librarian.specs.declared.printing.Output.{Output}
 use Rattle.string_librarian.specs.declared.printing.Output.TheVariants as output
 use Rattle.string_librarian.specs.declared.printing.Shown.TheVariants as shown
-use Rattle.string_librarian.specs.Rooms.{RoomState, Deposit, IsAt, all_cells}
+use Rattle.string_librarian.specs.Rooms.{RoomState, all_cells}
 use Rattle.string_librarian.specs.Denotes.{Denotes}
 use Rattle.string_librarian.specs.Printing.{advanced, output_bytes, rest_steps, text_steps, all_steps, IsBelow, IsLeft, AreLeft, IsPlaced, AreBelow, IsLine, Shows}
 use Rattle.string_librarian.proofs.StepsLemmas.{below_trans, line_is_short}
@@ -110,7 +107,7 @@ module _ (rooms : List RoomState) (patterns : List Pattern) (texts : List (List 
         rest = h.0 ++ s.back;
         parts = s.parts ∙ ap (λ b. b ++ s.back) h.1 ∙ append_assoc (output_bytes texts out) h.0 s.back;
         left = join ps (advanced top) h.0 s.back s.others h.2;
-        line = same_ends ps top line
+        line = same_ends ps top line;
       }
 
   -- a text was entered
@@ -129,8 +126,8 @@ module _ (rooms : List RoomState) (patterns : List Pattern) (texts : List (List 
         parts = s.parts ∙ ap (λ b. b ++ s.back) h.2 ∙ append_assoc h.0 h.1 s.back;
         left = join (ps ++ advanced top ∷ []) new h.0 (h.1 ++ s.back) (join ps (advanced top) h.1 s.back s.others h.6) l;
         line = line_join (ps ++ advanced top ∷ []) new (same_ends ps top line)
-          (record { deposit = l.deposit; at = l.at; bytes = h.0; denotes = subst (λ x. Denotes texts patterns rooms x h.0) (sym same) h.3 })
-          (under_join ps (advanced top) new.desc (under_below ps top.desc new.desc below ends.under) below)
+            (record { deposit = l.deposit; at = l.at; bytes = h.0; denotes = subst (λ x. Denotes texts patterns rooms x h.0) (sym same) h.3 })
+            (under_join ps (advanced top) new.desc (under_below ps top.desc new.desc below ends.under) below);
       }
     where
       under_below : (qs : List Pending) (d f : Desc) → IsBelow rooms d f → Under qs d → Under qs f

@@ -1,7 +1,7 @@
 -- What is shown of a deposit's next part, and the steps that are left behind it.
 use Rattle.std.specs.Prelude.{Contains}
 use Rattle.std.specs.List.{list_all}
-use Rattle.std.proofs.Common.{◌≡◌, ℕ, zero, suc, ◌+◌, ◌-◌, ◌<◌, ◌≤◌, Bool, true, false, not, ◌&&◌, ◌||◌, if◌then◌else◌, nat_eq, List, [], ◌∷◌, ◌++◌, Option, Some, None, length, map, drop, flat_map, slice_get, refl, sym, ap, subst, ◌∙◌, arith, append_assoc, eqb-true, unwrap_or, length-append, get_or}
+use Rattle.std.proofs.Common.{◌≡◌, ℕ, zero, suc, ◌+◌, ◌-◌, ◌<◌, ◌≤◌, Bool, true, false, not, ◌&&◌, ◌||◌, if◌then◌else◌, nat_eq, List, [], ◌∷◌, ◌++◌, Option, Some, None, length, map, drop, flat_map, slice_get, refl, sym, ap, subst, ◌∙◌, arith, eqb-true, length-append, get_or}
 use Rattle.std.proofs.lemmas.List.{drop_more, drop_all}
 use Rattle.lido_base.specs.declared.value.Value.{Value}
 use Rattle.lido_base.specs.declared.value.Value.TheVariants as value
@@ -9,16 +9,15 @@ use Rattle.lido_base.specs.declared.value.Desc.{Desc}
 use Rattle.lido_base.specs.declared.ids.StrId.{StrId}
 use Rattle.lido_base.specs.declared.pattern.Pattern.{Pattern}
 use Rattle.lido_base.specs.declared.pattern.Part.{Part}
-use Rattle.lido_base.specs.declared.pattern.PartPiece.{PartPiece}
 use Rattle.lido_base.specs.declared.pattern.PartPiece.TheVariants.{Fixed, Arg}
-use Rattle.lido_base.specs.Operations.{printed, piece_bytes, part_bytes, argument, is_filled}
+use Rattle.lido_base.specs.Operations.{printed, piece_bytes, part_bytes, is_filled}
 use Rattle.string_librarian.specs.declared.printing.Pending.{Pending}
 use Rattle.string_librarian.specs.declared.printing.Output.TheVariants as output
 use Rattle.string_librarian.specs.declared.printing.Shown.TheVariants as shown
-use Rattle.string_librarian.specs.Rooms.{RoomState, Deposit, IsAt, cells_of, all_cells}
+use Rattle.string_librarian.specs.Rooms.{RoomState, Deposit, IsAt, cells_of}
 use Rattle.string_librarian.specs.Denotes.{Denotes, empty, built, read_by}
-use Rattle.string_librarian.specs.Parts.{parts_of, parts_bytes, argument_of, is_full}
-use Rattle.string_librarian.specs.Printing.{advanced, shown_of, deposit_behind, deposits_in, deposit_of, value_steps, part_steps, parts_steps, rest_steps, text_steps, all_steps, direct, IsLeft, Shows}
+use Rattle.string_librarian.specs.Parts.{parts_of, argument_of, is_full}
+use Rattle.string_librarian.specs.Printing.{advanced, shown_of, deposit_behind, deposit_of, value_steps, part_steps, parts_steps, rest_steps, text_steps, all_steps, direct, IsLeft, Shows}
 use Rattle.string_librarian.proofs.DenotesLemmas.{text_length}
 use Rattle.string_librarian.proofs.PartsLemmas.{meaning-parts, read-argument, text_among, all_full}
 use Rattle.string_librarian.proofs.PrintingLemmas.{steps_last}
@@ -44,7 +43,7 @@ deposit_of-at rooms d deposit at =
     ap (λ ds. deposit_behind ds (d.node - 1)) (room_of (slice_get rooms d.room) at.room at.in_room ∙ at.parts)
     ∙ ap (λ n. deposit_behind (at.before ++ deposit ∷ at.after) n) place ∙ behind at.before deposit at.after
 
-nothing_left : (xs : List ℕ) → length xs ≡ 0 → xs ≡ []
+pub nothing_left : (xs : List ℕ) → length xs ≡ 0 → xs ≡ []
 nothing_left [] h = refl
 nothing_left (x ∷ xs) h = absurd (omega arith)
 
@@ -136,7 +135,7 @@ module _ (rooms : List RoomState) (patterns : List Pattern) where
       rest = flat_map (part_bytes texts top.braces (map (read_by texts l.reading) l.deposit.args)) (drop (top.next + 1) (parts_of patterns l.deposit.piece));
       parts = l.rest ∙ ap (λ ps. flat_map (part_bytes texts top.braces (map (read_by texts l.reading) l.deposit.args)) ps) cut;
       left = record { deposit = l.deposit; at = l.at; reading = l.reading; below = l.below; rest = refl };
-      steps = λ b. omega (arith, rest_steps-at b top l.deposit l.at, rest_steps-at b (advanced top) l.deposit l.at, ap (λ ps. parts_steps b l.deposit.args ps) cut)
+      steps = λ b. omega (arith, rest_steps-at b top l.deposit l.at, rest_steps-at b (advanced top) l.deposit l.at, ap (λ ps. parts_steps b l.deposit.args ps) cut);
     }
 
     -- a part in braces that are not printed shows nothing
@@ -148,10 +147,12 @@ module _ (rooms : List RoomState) (patterns : List Pattern) where
     -- a string of the pattern's own shows its bytes
     pub shows_fixed : (top : Pending) (bytes : List ℕ) (part : Part) (s : StrId) → Opened top bytes part → (part.brace && not top.braces) ≡ false → part.piece ≡ Fixed s
         → Shows rooms patterns texts top bytes (shown.Print (output.Bytes s))
-    shows_fixed top bytes part s o h is =
-        (o.rest,
-         o.parts ∙ ap (λ b. b ++ o.rest) (keep part.brace top.braces _ h ∙ ap (λ p. piece_bytes texts (map (read_by texts o.reading) o.deposit.args) p) is),
-         o.left, λ b. omega (arith, o.steps b))
+    shows_fixed top bytes part s o h is = (
+      o.rest,
+      o.parts ∙ ap (λ b. b ++ o.rest) (keep part.brace top.braces _ h ∙ ap (λ p. piece_bytes texts (map (read_by texts o.reading) o.deposit.args) p) is),
+      o.left,
+      λ b. omega (arith, o.steps b),
+    )
 
     by_value : (top : Pending) (bytes : List ℕ) (part : Part) (k : ℕ) (o : Opened top bytes part) (v : Value) → argument_of o.deposit.args k ≡ v
         → bytes ≡ printed (read_by texts o.reading v) ++ o.rest
@@ -184,10 +185,10 @@ module _ (rooms : List RoomState) (patterns : List Pattern) where
         → Shows rooms patterns texts top bytes (shown_of (argument_of o.deposit.args k))
     shows_argument top bytes part k o h is =
         by_value top bytes part k o (argument_of o.deposit.args k) refl
-          (o.parts ∙ ap (λ b. b ++ o.rest) (keep part.brace top.braces _ h
-              ∙ ap (λ p. piece_bytes texts (map (read_by texts o.reading) o.deposit.args) p) is
-              ∙ ap printed (sym (read-argument texts o.reading o.deposit.args k))))
-          (λ b. omega (arith, o.steps b, ap (λ p. part_steps b o.deposit.args (record { piece = p; brace = part.brace })) is))
+        (o.parts ∙ ap (λ b. b ++ o.rest) (keep part.brace top.braces _ h
+        ∙ ap (λ p. piece_bytes texts (map (read_by texts o.reading) o.deposit.args) p) is
+        ∙ ap printed (sym (read-argument texts o.reading o.deposit.args k))))
+        (λ b. omega (arith, o.steps b, ap (λ p. part_steps b o.deposit.args (record { piece = p; brace = part.brace })) is))
 
     -- at the beginning the whole text is left
     pub begun_left : (p : Pending) (bytes : List ℕ) → p.next ≡ 0 → 0 < p.desc.len → ((d : Deposit) → IsAt rooms p.desc d → p.braces ≡ list_all (is_full d.args) (parts_of patterns d.piece))
@@ -203,8 +204,8 @@ module _ (rooms : List RoomState) (patterns : List Pattern) where
           reading = reading;
           below = below;
           rest = meaning-parts texts patterns d.piece (map (read_by texts reading) d.args) bytes made
-            ∙ ap (λ b. flat_map (part_bytes texts b (map (read_by texts reading) d.args)) (parts_of patterns d.piece)) same
-            ∙ ap (λ n. flat_map (part_bytes texts p.braces (map (read_by texts reading) d.args)) (drop n (parts_of patterns d.piece))) (sym next)
+              ∙ ap (λ b. flat_map (part_bytes texts b (map (read_by texts reading) d.args)) (parts_of patterns d.piece)) same
+              ∙ ap (λ n. flat_map (part_bytes texts p.braces (map (read_by texts reading) d.args)) (drop n (parts_of patterns d.piece))) (sym next);
         }
 
 -- the part at a place, apart from those behind it

@@ -2,11 +2,10 @@
 -- most as there are cells.
 use Rattle.std.specs.Prelude.{Contains}
 use Rattle.std.specs.List.{IsDistinct, AllByRecursion, list_any}
-use Rattle.std.proofs.Common.{◌≡◌, ℕ, zero, suc, ◌+◌, ◌-◌, ◌<◌, ◌≤◌, Bool, true, false, eqb, ◌||◌, List, [], ◌∷◌, ◌++◌, Option, Some, None, length, map, slice_get, refl, sym, ap, subst, ◌∙◌, arith, eqb-true}
+use Rattle.std.proofs.Common.{◌≡◌, ℕ, zero, suc, ◌+◌, ◌-◌, ◌<◌, ◌≤◌, Bool, true, false, eqb, ◌||◌, List, [], ◌∷◌, ◌++◌, Some, length, map, slice_get, refl, sym, ap, subst, ◌∙◌, arith, eqb-true}
 use Rattle.std.proofs.lemmas.Option.{none-some}
 use Rattle.std.proofs.lemmas.Map.Steps.{length-le_from_distinct_below}
 use Rattle.std.proofs.lemmas.List.{length-map}
-use Rattle.lido_base.specs.declared.value.Value.{Value}
 use Rattle.lido_base.specs.declared.value.Value.TheVariants as value
 use Rattle.lido_base.specs.declared.value.Desc.{Desc}
 use Rattle.lido_base.specs.declared.pattern.Pattern.{Pattern}
@@ -106,11 +105,12 @@ module _ (texts : List (List ℕ)) (patterns : List Pattern) (rooms : List RoomS
   apart : (d : Desc) → IsPlaced rooms patterns texts d → (ps : List Pending) → AreBelow rooms patterns texts d ps → Line ps
       → AllByRecursion (λ n. eqb (number rooms d) n ≡ false) (map (λ (p : Pending). number rooms p.desc) ps)
   apart d placed [] below line = tt
-  apart d placed (p ∷ ps) below line =
-      (other_number (number rooms d) p.desc (eqb (number rooms d) (number rooms p.desc)) refl
-          (λ e. let same : d ≡ p.desc = one_number rooms d p.desc placed.deposit line.0.deposit placed.at line.0.at e in
-              no_cycle texts patterns rooms d placed.bytes placed.denotes (subst (λ x. IsBelow rooms d x) (sym same) below.0)),
-       apart d placed ps below.1 line.2)
+  apart d placed (p ∷ ps) below line = (
+    other_number (number rooms d) p.desc (eqb (number rooms d) (number rooms p.desc)) refl
+        (λ e. let same : d ≡ p.desc = one_number rooms d p.desc placed.deposit line.0.deposit placed.at line.0.at e in
+        no_cycle texts patterns rooms d placed.bytes placed.denotes (subst (λ x. IsBelow rooms d x) (sym same) below.0)),
+    apart d placed ps below.1 line.2,
+  )
 
   distinct : (ps : List Pending) → Line ps → IsDistinct eqb (map (λ (p : Pending). number rooms p.desc) ps)
   unfolding IsDistinct

@@ -7,7 +7,6 @@ use Rattle.lido_base.specs.declared.value.Desc.{Desc}
 use Rattle.lido_base.specs.declared.pattern.Pattern.{Pattern}
 use Rattle.lido_base.specs.declared.pattern.Part.{Part}
 use Rattle.lido_base.specs.declared.pattern.PartPiece.TheVariants.{Fixed, Arg}
-use Rattle.lido_base.specs.declared.pattern.Piece.{Piece}
 use Rattle.lido_base.specs.Operations.{part_bytes}
 use Rattle.string_librarian.specs.declared.printing.Pending.{Pending}
 use Rattle.string_librarian.specs.declared.printing.Output.{Output}

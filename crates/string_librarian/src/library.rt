@@ -231,7 +231,7 @@ impl Library {
         ensures text { (texts : List (List ℕ)) (bytes : List ℕ) → IsLine self.now patterns.now.list texts pending.old.items
             → AreLeft self.now patterns.now.list texts pending.old.items bytes
             → (rest : List ℕ) × (bytes ≡ output_bytes texts result ++ rest) × AreLeft self.now patterns.now.list texts pending.new.items rest
-              × IsLine self.now patterns.now.list texts pending.new.items }
+            × IsLine self.now patterns.now.list texts pending.new.items }
         ensures smaller { all_steps self.now patterns.now.list (all_cells self.now) pending.new.items
             < all_steps self.now patterns.now.list (all_cells self.now) pending.old.items }
         ensures capacity { vec_capacity pending.new ≡ vec_capacity pending.old }

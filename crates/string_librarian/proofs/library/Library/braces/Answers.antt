@@ -1,4 +1,4 @@
-use Rattle.std.proofs.Common.{◌≡◌, ◌∙◌, sym, ap, Some}
+use Rattle.std.proofs.Common.{◌≡◌, ◌∙◌, ap}
 use Rattle.std.specs.List.{list_all}
 use Rattle.string_librarian.specs.Parts.{is_full, parts_of}
 use Rattle.string_librarian.proofs.library.Library.braces.Goals as goal

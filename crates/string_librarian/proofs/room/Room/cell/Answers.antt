@@ -1,7 +1,6 @@
-use Rattle.std.proofs.Common.{◌≡◌, ◌∙◌, ◌+◌, ◌-◌, ◌<◌, ◌≤◌, ◌++◌, ◌∷◌, arith, sym, ap, slice_get, length, Some, get_or}
+use Rattle.std.proofs.Common.{◌≡◌, ◌∙◌, ◌+◌, ◌-◌, ◌++◌, ◌∷◌, arith, sym, ap, slice_get, Some}
 use Rattle.std.proofs.lemmas.Option.{slice_get_past, slice_get-get_or}
-use Rattle.string_librarian.specs.Rooms.{cells_of}
-use Rattle.string_librarian.specs.Cells.{cells_for, deposits_of}
+use Rattle.string_librarian.specs.Cells.{deposits_of}
 use Rattle.string_librarian.proofs.CellsLemmas.{cell_behind}
 use Rattle.string_librarian.proofs.room.Room.cell.Goals as goal
 

@@ -1,0 +1,8 @@
+pub mod CellsLemmas
+pub mod DenotesLemmas
+pub mod DecimalLemmas
+pub mod PartsLemmas
+pub mod StepsLemmas
+pub mod PrintingLemmas
+pub mod ShownLemmas
+pub mod WritingLemmas

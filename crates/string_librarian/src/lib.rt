@@ -1,6 +1,7 @@
 //! Rooms in which built texts are kept as deposits, and the library that writes them. A text is a deposit: what makes it, of
 //! which arguments, and how many bytes it has. No text is copied before it is written.
 #![tactic(auto)]
+
 ghost use Rattle.std.specs.Prelude.{◌≡◌, ◌<◌, List, ℕ, IfOk};
 ghost use Rattle.lido_base.specs.declared.pattern.Pattern.{Pattern};
 ghost use Rattle.string_librarian.specs.Denotes.{Denotes};

@@ -20,7 +20,9 @@ returns-clause-denotes c =
     let number : room.number ≡ 0 = ap (λ r. r.number) c.deposit-text.ensures.room ∙ ap (λ r. r.number) c.in_ok-room.ensures in
     let bytes : List ℕ = unwrap_or (slice_get c.intern.new.self c.in_ok-id.id.0) [] in
     let size : length bytes ≡ 10 = ap (λ o. length (unwrap_or o [])) c.in_ok-id.ensures.id in
-    let rooms : c.of.result ≡ room ∷ [] = cc (c.of.ensures, c.in_ok-push.ensures.items) in
-    (bytes, λ patterns. subst (λ l. Denotes c.intern.new.self patterns l c.deposit-text.result bytes) (sym rooms)
-      (c.deposit-text.ensures.denotes c.intern.new.self patterns (room ∷ []) bytes (ap (λ n. slice_get (room ∷ []) n) number)
-        (record { reading = λ (e : Desc). []; below = λ e m. absurd (no_text c.in_ok-id.id e m); made = refl }) size))
+    let rooms : c.of.result ≡ room ∷ [] = cc (c.of.ensures, c.in_ok-push.ensures.items) in (
+      bytes,
+      λ patterns. subst (λ l. Denotes c.intern.new.self patterns l c.deposit-text.result bytes) (sym rooms)
+          (c.deposit-text.ensures.denotes c.intern.new.self patterns (room ∷ []) bytes (ap (λ n. slice_get (room ∷ []) n) number)
+          (record { reading = λ (e : Desc). []; below = λ e m. absurd (no_text c.in_ok-id.id e m); made = refl }) size),
+    )

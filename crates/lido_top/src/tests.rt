@@ -42,7 +42,7 @@ struct Case {
 
 const CASES: &[Case] = &[
     Case {
-        name: "three and four",
+        name: "three and four, where a read behind the end would fail",
         words: &["run"],
         input: Input {
             job: JOB,
@@ -53,7 +53,7 @@ const CASES: &[Case] = &[
             count: 0,
             size: 0,
         },
-        read_fails: &[],
+        read_fails: &[2],
         write_fails: &[],
         status: Status::Done,
         text: b"7",

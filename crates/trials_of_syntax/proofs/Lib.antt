@@ -4,3 +4,4 @@ pub mod Classes
 pub mod Tables
 pub mod SumOfItemsLemmas
 pub mod NestedStartLemmas
+pub mod NumberedListLemmas

@@ -5,3 +5,4 @@ pub mod NestedDepths
 pub mod Classes
 pub mod SumOfItems
 pub mod NestedStart
+pub mod NumberedList

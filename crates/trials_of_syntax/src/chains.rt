@@ -6,6 +6,7 @@ ghost use Rattle.lido_syntax.specs.Constituents.{constituents_at};
 ghost use Rattle.lido_syntax.specs.Sets.{Sets};
 ghost use Rattle.lido_syntax.specs.Value.{value};
 ghost use Rattle.trials_of_syntax.specs.NestedStart.{env, spec, tree, counted, leaked, empty_tree, lines, of_line, no, item_rule, line, all_lines, group_lines};
+ghost use Rattle.trials_of_syntax.specs.NumberedList.{tree as three_lines, counted as three_counted, stuck as three_stuck, lines as three_texts};
 
 /// A start counts for the nodes below it alone: the lines have the numbers 1, 10, 11 and 2, and the output is their lines.
 pub fn nested_start()
@@ -31,4 +32,18 @@ pub fn tails()
     ensures behind_the_group { (sets : Sets spec) → IsTail spec sets env tree counted no 2 (Int (pos 2)) }
     ensures in_front { (sets : Sets spec) → IsTail spec sets env tree counted no 1 (Int (pos 1)) }
     ensures started { (sets : Sets spec) → IsTail spec sets env empty_tree counted no 0 (Int (pos 1)) }
+{}
+
+/// A chain numbers the lines of a list from its start on: 1, 2 and 3, and the output is the three lines.
+pub fn numbered_list()
+    ensures threaded { (sets : Sets spec) → IsThreaded spec sets env three_lines three_counted no }
+    ensures no_repeat { (sets : Sets spec) → ¬ IsThreaded spec sets env three_lines three_stuck no }
+    ensures first { (sets : Sets spec)
+        → value spec sets env three_lines three_counted item_rule 3 1 (λ c. Void) line.value ≡ of_line (codes "1 a") }
+    ensures second { (sets : Sets spec)
+        → value spec sets env three_lines three_counted item_rule 3 2 (λ c. Void) line.value ≡ of_line (codes "2 b") }
+    ensures third { (sets : Sets spec)
+        → value spec sets env three_lines three_counted item_rule 3 3 (λ c. Void) line.value ≡ of_line (codes "3 c") }
+    ensures output { (sets : Sets spec) → constituents_at spec sets env three_lines three_texts all_lines 0 all_lines.with
+        ≡ Text (codes "1 a" ++ 10 ∷ codes "2 b" ++ 10 ∷ codes "3 c" ++ 10 ∷ []) }
 {}

@@ -10,7 +10,7 @@ mod remote_access;
 mod symbol_computations;
 mod whole;
 
-pub use chains::{nested_start, tails};
+pub use chains::{nested_start, numbered_list, tails};
 pub use expressions::values_of_expressions;
 pub use remote_access::{nested_depths, shielded_sums};
 pub use symbol_computations::{

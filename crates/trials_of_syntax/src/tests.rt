@@ -1,5 +1,5 @@
 //! The types of a syntax tree can be built, nested in one another, and printed.
-use lido_base::{Boxed, List, StrId, ValueType};
+use lido_base::{Boxed, Gate, List, OpenGate, StrId, ValueType};
 use lido_syntax::{Cons, Expr, Name, Pair, SpecFault, With};
 use std::alloc::{AllocError, Global};
 
@@ -56,5 +56,15 @@ fn a_call_holds_a_remote_access(rt: HostRuntime) -> Result<(), AllocError> {
 fn a_fault_is_printed_with_its_place(rt: HostRuntime) -> Result<(), AllocError> {
     let text = format!(in rt.alloc(); "{:?}", SpecFault::BadIndex { at: 12 })?;
     assert_eq!(rt; text.as_str(), "BadIndex { at: 12 }");
+    Ok(())
+}
+
+#[test]
+fn what_is_held_is_given_back(rt: HostRuntime) -> Result<(), AllocError> {
+    let boxed = Boxed::new(rt.alloc(), 7u32)?;
+    assert_eq!(rt; boxed.into_inner(), 7);
+    let items = List::from_vec(vec![in rt.alloc(); 5u32, 6]?).into_vec();
+    assert!(rt; items.as_slice() == [5, 6].as_slice());
+    OpenGate.at(3);
     Ok(())
 }

@@ -6,3 +6,4 @@ pub mod ReachLemmas
 pub mod OriginsLemmas
 pub mod TreeTests
 pub mod PhasesLemmas
+pub mod ReadingLemmas

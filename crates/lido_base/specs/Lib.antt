@@ -10,3 +10,4 @@ pub mod Equations
 pub mod Reach
 pub mod Origins
 pub mod Ranges
+pub mod Reading

@@ -5,3 +5,4 @@ pub mod Gaps
 pub mod Tokens
 pub mod Lexemes
 pub mod Lexing
+pub mod Seen

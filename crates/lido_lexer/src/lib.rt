@@ -7,6 +7,7 @@ mod keyword;
 pub mod laws;
 mod lexeme;
 mod lexer;
+mod look;
 mod numbers;
 mod quoted;
 mod sign;
@@ -17,5 +18,6 @@ mod words;
 
 pub use keyword::Keyword;
 pub use lexer::lex;
+pub use look::{is_key, is_sign, next};
 pub use sign::Sign;
 pub use token::{LexFault, Token, TokenKind};

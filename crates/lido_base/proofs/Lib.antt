@@ -7,3 +7,4 @@ pub mod OriginsLemmas
 pub mod TreeTests
 pub mod PhasesLemmas
 pub mod ReadingLemmas
+pub mod DecimalLemmas

@@ -3,6 +3,7 @@
 
 mod boxed;
 mod contents;
+mod decimal;
 mod ids;
 mod kinds;
 pub mod laws;
@@ -18,6 +19,7 @@ mod whole;
 
 pub use boxed::Boxed;
 pub use contents::Contents;
+pub use decimal::Decimal;
 pub use ids::{AttrId, NodeId, RuleId, StrId, SymId};
 pub use kinds::{Kind, Many, WordKind};
 pub use list::List;

@@ -1,3 +1,2 @@
-pub mod DecimalLemmas
 pub mod PutsLemmas
 pub mod LinesLemmas

@@ -1,7 +1,6 @@
 //! How a call ends, and the line that says so.
 #![tactic(auto)]
 
-mod decimal;
 pub mod laws;
 mod lines;
 mod names;

@@ -8,11 +8,10 @@ ghost use Rattle.order_report.specs.Lines.{IsName, IsNamed, IsNamedFault, line, 
 ghost use Rattle.order_report.specs.Names.{texts_in};
 ghost use Rattle.order_report.specs.Writing.{Puts, TakesPart};
 
-use crate::decimal::Decimal;
 use crate::names::Names;
 use crate::status::{Status, Which};
 use crate::writing::{name, write_line};
-use lido_base::{Many, Sink, StrId, Strings, WordKind, WriteFault};
+use lido_base::{Decimal, Many, Sink, StrId, Strings, WordKind, WriteFault};
 use lido_syntax::SpecFault;
 
 /// What is wrong with a word.

@@ -1,6 +1,5 @@
 pub mod CellsLemmas
 pub mod DenotesLemmas
-pub mod DecimalLemmas
 pub mod PartsLemmas
 pub mod StepsLemmas
 pub mod PrintingLemmas

@@ -7,14 +7,12 @@ ghost use Rattle.lido_base.specs.declared.pattern.Pattern.{Pattern};
 ghost use Rattle.string_librarian.specs.Denotes.{Denotes};
 ghost use Rattle.string_librarian.specs.Rooms.{all_cells};
 
-mod decimal;
 pub mod laws;
 mod library;
 mod parts;
 mod printing;
 mod room;
 
-pub use decimal::Decimal;
 pub use library::{Library, Stack};
 pub use parts::{bytes_of, parts_of};
 pub use room::Room;

@@ -9,9 +9,10 @@ ghost use Rattle.string_librarian.specs.Printing.{all_steps, output_bytes, shown
 ghost use Rattle.string_librarian.specs.Rooms.{Deposit as Deposited, RoomState, AreNumbered, IsAt, all_cells};
 
 use crate::printing::{Output, Pending, Shown};
-use crate::{Decimal, Room, bytes_of, parts_of};
+use crate::{Room, bytes_of, parts_of};
 use lido_base::{
-    Desc, Memory, Part, PartPiece, Patterns, Piece, Sink, Strings, Value, WriteFault, write_all,
+    Decimal, Desc, Memory, Part, PartPiece, Patterns, Piece, Sink, Strings, Value, WriteFault,
+    write_all,
 };
 use std::alloc::Global;
 use std::marker::Model;
@@ -266,7 +267,7 @@ fn put<K: Sink>(sink: &mut K, strings: &Strings, output: Output) -> Result<u64, 
     match output {
         Output::Nothing => Ok(0),
         Output::Bytes(text) => put_bytes(sink, bytes_of(strings, text)),
-        Output::Number(number) => put_bytes(sink, Decimal::of(number).as_bytes()),
+        Output::Number(number) => put_bytes(sink, Decimal::of_signed(number).as_bytes()),
     }
 }
 

@@ -4,8 +4,8 @@ ghost use Rattle.std.specs.List.{list_all};
 ghost use Rattle.string_librarian.specs.Parts.{argument_of, is_full};
 ghost use Rattle.value_ops.specs.Lengths.{parts_len, part_len, piece_len as piece_length, value_len as value_length};
 
-use lido_base::{Part, PartPiece, Strings, Value};
-use string_librarian::{Decimal, bytes_of};
+use lido_base::{Decimal, Part, PartPiece, Strings, Value};
+use string_librarian::bytes_of;
 
 /// The most bytes of one text.
 const MOST: usize = 1 << 30;
@@ -78,7 +78,7 @@ fn value_len(value: Value, strings: &Strings) -> usize
     ensures small { result < 2 ^ 63 }
 {
     match value {
-        Value::Int(number) => Decimal::of(number).len() as usize,
+        Value::Int(number) => Decimal::of_signed(number).len() as usize,
         Value::Str(text) => bytes_of(strings, text).len(),
         Value::Text(text) => text.len as usize,
         _ => 0,

@@ -1,8 +1,8 @@
 use Rattle.std.proofs.Common.{◌≡◌, ◌+◌, ◌-◌, ◌%◌, arith, append_assoc}
 use Rattle.std.proofs.lemmas.Fmt.{decimal_digit, decimal_step}
 use Rattle.std.proofs.lemmas.List.{drop-set, length-set}
-use Rattle.order_report.proofs.DecimalLemmas.{longest, one_digit, one_digit_more}
-use Rattle.order_report.proofs.decimal.write_digits.Goals as goal
+use Rattle.lido_base.proofs.DecimalLemmas.{longest, one_digit, one_digit_more}
+use Rattle.lido_base.proofs.decimal.write_digits.Goals as goal
 
 pub overflow_sub-at : goal.overflow_sub-at
 overflow_sub-at c = omega (arith, longest c.args.number c.ranges.number.fits, one_digit_more c.loop-left.left (omega arith) (omega arith))

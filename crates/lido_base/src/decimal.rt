@@ -1,10 +1,10 @@
 //! Numbers as decimal text, without memory.
 ghost use Rattle.std.specs.Prelude.{◌≡◌, ◌+◌, ◌≤◌, drop, length};
-ghost use Rattle.std.specs.Fmt.{decimal};
+ghost use Rattle.std.specs.Fmt.{decimal, signed_decimal};
 
 use std::marker::Model;
 
-/// The most digits that a number of 64 bits has.
+/// The most bytes that a number of 64 bits has.
 const LONGEST: usize = 20;
 
 /// The decimal text of a number. Contracts see its bytes.
@@ -25,7 +25,7 @@ impl Model for Decimal {
 }
 
 impl Decimal {
-    /// The text of a number.
+    /// The text of a number without a sign.
     pub fn of(number: u64) -> Decimal
         ensures { result ≡ decimal number }
     {
@@ -34,11 +34,34 @@ impl Decimal {
         Decimal { buffer, from }
     }
 
+    /// The text of a number, with a minus in front where it is below 0.
+    pub fn of_signed(number: i64) -> Decimal
+        ensures { result ≡ signed_decimal number }
+    {
+        let mut buffer = [0u8; LONGEST];
+        let from = write_digits(number.unsigned_abs(), &mut buffer);
+        if number >= 0 {
+            return Decimal { buffer, from };
+        }
+        buffer[from - 1] = b'-';
+        Decimal {
+            buffer,
+            from: from - 1,
+        }
+    }
+
     /// The bytes.
     pub fn as_bytes(&self) -> &[u8]
         ensures { result.now ≡ self.now }
     {
         &self.buffer[self.from..]
+    }
+
+    /// How many bytes there are.
+    pub fn len(&self) -> u32
+        ensures { result ≡ length self.now }
+    {
+        (LONGEST - self.from) as u32
     }
 }
 

@@ -1,8 +1,8 @@
 use Rattle.std.proofs.Common.{◌≡◌, ◌+◌, ◌-◌, arith, to_z-of_z}
 use Rattle.std.proofs.lemmas.Fmt.{length-decimal-le}
 use Rattle.std.proofs.lemmas.List.{drop-set}
-use Rattle.string_librarian.proofs.DecimalLemmas.{minus_first}
-use Rattle.string_librarian.proofs.decimal.Decimal.of.Goals as goal
+use Rattle.lido_base.proofs.DecimalLemmas.{minus_first}
+use Rattle.lido_base.proofs.decimal.Decimal.of_signed.Goals as goal
 
 pub overflow_sub-buffer : goal.overflow_sub-buffer
 overflow_sub-buffer c = omega (arith, length-decimal-le 19 c.unsigned_abs.result (omega arith) (omega arith) (omega arith))

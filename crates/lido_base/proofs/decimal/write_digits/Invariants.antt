@@ -1,6 +1,6 @@
 use Rattle.std.proofs.Common.{◌≡◌, ◌+◌, ◌≤◌, ◌++◌, length, drop}
 use Rattle.std.specs.Fmt.{decimal}
-use Rattle.string_librarian.proofs.decimal.write_digits.Given as goal
+use Rattle.lido_base.proofs.decimal.write_digits.Given as goal
 
 abbrev pub invariant-loop-left : goal.invariant-loop-left
 invariant-loop-left l = record {

@@ -5,11 +5,14 @@ ghost use Rattle.string_librarian.specs.Denotes.{Denotes};
 ghost use Rattle.lido_base.specs.declared.value.Desc.{Desc as Descriptor};
 ghost use Rattle.trials_of_texts.specs.Held.{IsHeld};
 
-use lido_base::{Desc, List, MemSink, Memory, Patterns, Piece, StrId, Strings, Value};
+use lido_base::{
+    BadKind, Desc, List, MemSink, Memory, Op, Origin, Patterns, Piece, StrId, Strings, Value,
+};
 use std::alloc::{AllocError, Global};
 use std::test::Fail;
 use std::time::Instant;
 use string_librarian::{Library, Room, Stack};
+use value_ops::apply;
 
 /// A string as a deposit.
 fn string(room: &mut Room, texts: &Strings, id: StrId, len: u32) -> Desc
@@ -125,5 +128,52 @@ fn long_chains(rt: HostRuntime) -> Result<(), Fail> {
         assert_eq!(rt; slow.bytes.as_slice().ends_with(b"ab>"), in_front);
         assert!(rt; start.elapsed(&rt)?.as_secs() < 20);
     }
+    Ok(())
+}
+
+/// Two texts in a row, by computation 2 at node 1.
+fn seq(room: &mut Room, texts: &Strings, patterns: &Patterns, left: Value, right: Value) -> Value
+    requires { 3 ≤ room.old.space }
+    ensures { room.old.space ≤ room.new.space + 3 }
+{
+    apply(Op::Seq, &[left, right], 1, 2, room, texts, patterns)
+}
+
+/// A text of one byte, doubled so many times.
+fn rope(room: &mut Room, texts: &Strings, patterns: &Patterns, one: Value, times: u32) -> Value
+    requires few { times ≤ 100 }
+    requires space { 3 * times ≤ room.old.space }
+    ensures { room.old.space ≤ room.new.space + 3 * times }
+{
+    let mut text = one;
+    for _ in 0..times {
+        text = seq(room, texts, patterns, text, text);
+    }
+    text
+}
+
+#[test]
+fn rope_of_doublings(rt: HostRuntime) -> Result<(), Fail> {
+    let alloc = rt.alloc();
+    let start = Instant::now(&rt)?;
+    let (texts, sign, _) = table(alloc)?;
+    let patterns = Patterns {
+        list: List::new(alloc),
+    };
+    let mut room = Room::with_space(alloc, 0, 200)?;
+    let one = Value::Text(string(&mut room, &texts, sign, 1));
+    let longest = rope(&mut room, &texts, &patterns, one, 30);
+    assert!(rt; matches!(longest, Value::Text(text) if text.len == 1 << 30));
+    let too_long = Value::Bad(Origin {
+        node: 1,
+        comp: 2,
+        kind: BadKind::TextTooLong,
+    });
+    assert_eq!(rt; seq(&mut room, &texts, &patterns, longest, one), too_long);
+    assert_eq!(rt;
+        seq(&mut room, &texts, &patterns, longest, longest),
+        too_long
+    );
+    assert!(rt; start.elapsed(&rt)?.as_secs() < 2);
     Ok(())
 }

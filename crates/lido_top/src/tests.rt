@@ -2,7 +2,8 @@
 ghost use Rattle.std.specs.Prelude.{◌<◌, ◌^◌, length};
 
 use super::*;
-use lido_base::{List, MemSink, MemSource, OpenGate};
+use lido_base::{List, MemSink, MemSource, OpenGate, WordKind};
+use order_report::{Status, Which};
 use std::alloc::{AllocError, Global};
 use std::test::Fail;
 
@@ -14,10 +15,18 @@ const MINUS_JOB: &[u8] =
 
 const TREE: &[u8] = b"(rTop (rAdd (rNum 3) (rNum 4)))\n";
 
-/// An input: a specification, a front, a part and another part that stand so often, and blanks up to a size.
+/// What an input begins with: a job up to its tree, or a text.
+#[derive(Clone, Copy)]
+enum Front {
+    Sum,
+    Difference,
+    Text(&'static [u8]),
+}
+
+/// An input: what it begins with, a front, a part and another part that stand so often, and blanks up to a size.
 #[derive(Clone, Copy)]
 struct Input {
-    job: &'static [u8],
+    job: Front,
     front: &'static [u8],
     open: &'static [u8],
     inner: &'static [u8],
@@ -26,7 +35,7 @@ struct Input {
     size: usize,
 }
 
-/// A call of `lido` and what comes of it.
+/// A call of `lido` and what comes of it. The line on `err` tells the status.
 #[derive(Clone, Copy)]
 struct Case {
     name: &'static str,
@@ -34,8 +43,9 @@ struct Case {
     input: Input,
     read_fails: &'static [u32],
     write_fails: &'static [u32],
-    status: Status,
+    exit: u8,
     text: &'static [u8],
+    line: &'static [u8],
     taken: u32,
     calls: bool,
 }
@@ -45,7 +55,7 @@ const CASES: &[Case] = &[
         name: "three and four, where a read behind the end would fail",
         words: &["run"],
         input: Input {
-            job: JOB,
+            job: Front::Sum,
             front: TREE,
             open: b"",
             inner: b"",
@@ -55,8 +65,9 @@ const CASES: &[Case] = &[
         },
         read_fails: &[2],
         write_fails: &[],
-        status: Status::Done,
+        exit: 0,
         text: b"7",
+        line: b"",
         taken: 286,
         calls: true,
     },
@@ -64,7 +75,7 @@ const CASES: &[Case] = &[
         name: "first read fails",
         words: &["run"],
         input: Input {
-            job: JOB,
+            job: Front::Sum,
             front: TREE,
             open: b"",
             inner: b"",
@@ -74,8 +85,9 @@ const CASES: &[Case] = &[
         },
         read_fails: &[0],
         write_fails: &[],
-        status: Status::ReadFault,
+        exit: 2,
         text: b"",
+        line: b"lido: input failed\n",
         taken: 0,
         calls: true,
     },
@@ -83,7 +95,7 @@ const CASES: &[Case] = &[
         name: "second read fails",
         words: &["run"],
         input: Input {
-            job: JOB,
+            job: Front::Sum,
             front: TREE,
             open: b"",
             inner: b"",
@@ -93,8 +105,9 @@ const CASES: &[Case] = &[
         },
         read_fails: &[1],
         write_fails: &[],
-        status: Status::ReadFault,
+        exit: 2,
         text: b"",
+        line: b"lido: input failed\n",
         taken: 3_000,
         calls: true,
     },
@@ -102,7 +115,7 @@ const CASES: &[Case] = &[
         name: "first write fails",
         words: &["run"],
         input: Input {
-            job: JOB,
+            job: Front::Sum,
             front: TREE,
             open: b"",
             inner: b"",
@@ -112,11 +125,9 @@ const CASES: &[Case] = &[
         },
         read_fails: &[],
         write_fails: &[0],
-        status: Status::WriteFault {
-            sink: Which::Out,
-            written: 0,
-        },
+        exit: 3,
         text: b"",
+        line: b"lido: output failed after 0 bytes\n",
         taken: 286,
         calls: true,
     },
@@ -124,7 +135,7 @@ const CASES: &[Case] = &[
         name: "second write fails",
         words: &["run"],
         input: Input {
-            job: JOB,
+            job: Front::Sum,
             front: b"(rTop (rNum 55))",
             open: b"",
             inner: b"",
@@ -134,11 +145,9 @@ const CASES: &[Case] = &[
         },
         read_fails: &[],
         write_fails: &[1],
-        status: Status::WriteFault {
-            sink: Which::Out,
-            written: 1,
-        },
+        exit: 3,
         text: b"5",
+        line: b"lido: output failed after 1 bytes\n",
         taken: 270,
         calls: true,
     },
@@ -146,7 +155,7 @@ const CASES: &[Case] = &[
         name: "no word",
         words: &[],
         input: Input {
-            job: JOB,
+            job: Front::Sum,
             front: TREE,
             open: b"",
             inner: b"",
@@ -156,16 +165,17 @@ const CASES: &[Case] = &[
         },
         read_fails: &[],
         write_fails: &[],
-        status: Status::FirstPathOnly,
+        exit: 1,
         text: b"",
+        line: b"lido: word 0 missing\n",
         taken: 0,
         calls: false,
     },
     Case {
-        name: "another word",
+        name: "check alone",
         words: &["check"],
         input: Input {
-            job: JOB,
+            job: Front::Sum,
             front: TREE,
             open: b"",
             inner: b"",
@@ -175,8 +185,9 @@ const CASES: &[Case] = &[
         },
         read_fails: &[],
         write_fails: &[],
-        status: Status::FirstPathOnly,
+        exit: 13,
         text: b"",
+        line: b"lido: not built yet\n",
         taken: 0,
         calls: false,
     },
@@ -184,7 +195,7 @@ const CASES: &[Case] = &[
         name: "a word more",
         words: &["run", "x"],
         input: Input {
-            job: JOB,
+            job: Front::Sum,
             front: TREE,
             open: b"",
             inner: b"",
@@ -194,8 +205,9 @@ const CASES: &[Case] = &[
         },
         read_fails: &[],
         write_fails: &[],
-        status: Status::FirstPathOnly,
+        exit: 1,
         text: b"",
+        line: b"lido: word 1 unknown\n",
         taken: 0,
         calls: false,
     },
@@ -203,7 +215,7 @@ const CASES: &[Case] = &[
         name: "minus for plus",
         words: &["run"],
         input: Input {
-            job: MINUS_JOB,
+            job: Front::Difference,
             front: TREE,
             open: b"",
             inner: b"",
@@ -213,8 +225,9 @@ const CASES: &[Case] = &[
         },
         read_fails: &[],
         write_fails: &[],
-        status: Status::FirstPathOnly,
+        exit: 13,
         text: b"",
+        line: b"lido: not built yet\n",
         taken: 286,
         calls: true,
     },
@@ -222,7 +235,7 @@ const CASES: &[Case] = &[
         name: "white space",
         words: &["run"],
         input: Input {
-            job: JOB,
+            job: Front::Sum,
             front: b"\t( rTop(rNum\r\n 05 ) )  ",
             open: b"",
             inner: b"",
@@ -232,8 +245,9 @@ const CASES: &[Case] = &[
         },
         read_fails: &[],
         write_fails: &[],
-        status: Status::Done,
+        exit: 0,
         text: b"5",
+        line: b"",
         taken: 277,
         calls: true,
     },
@@ -241,7 +255,7 @@ const CASES: &[Case] = &[
         name: "sum of a sum",
         words: &["run"],
         input: Input {
-            job: JOB,
+            job: Front::Sum,
             front: b"(rTop(rAdd(rAdd(rNum -1)(rNum -20))(rNum 7)))",
             open: b"",
             inner: b"",
@@ -251,8 +265,9 @@ const CASES: &[Case] = &[
         },
         read_fails: &[],
         write_fails: &[],
-        status: Status::Done,
+        exit: 0,
         text: b"-14",
+        line: b"",
         taken: 299,
         calls: true,
     },
@@ -260,7 +275,7 @@ const CASES: &[Case] = &[
         name: "least number",
         words: &["run"],
         input: Input {
-            job: JOB,
+            job: Front::Sum,
             front: b"(rTop (rNum -9223372036854775808))",
             open: b"",
             inner: b"",
@@ -270,8 +285,9 @@ const CASES: &[Case] = &[
         },
         read_fails: &[],
         write_fails: &[],
-        status: Status::Done,
+        exit: 0,
         text: b"-9223372036854775808",
+        line: b"",
         taken: 288,
         calls: true,
     },
@@ -279,7 +295,7 @@ const CASES: &[Case] = &[
         name: "number too large",
         words: &["run"],
         input: Input {
-            job: JOB,
+            job: Front::Sum,
             front: b"(rTop (rNum 9223372036854775808))",
             open: b"",
             inner: b"",
@@ -289,8 +305,9 @@ const CASES: &[Case] = &[
         },
         read_fails: &[],
         write_fails: &[],
-        status: Status::FirstPathOnly,
+        exit: 13,
         text: b"",
+        line: b"lido: not built yet\n",
         taken: 287,
         calls: true,
     },
@@ -298,7 +315,7 @@ const CASES: &[Case] = &[
         name: "number too small",
         words: &["run"],
         input: Input {
-            job: JOB,
+            job: Front::Sum,
             front: b"(rTop (rNum -9223372036854775809))",
             open: b"",
             inner: b"",
@@ -308,8 +325,9 @@ const CASES: &[Case] = &[
         },
         read_fails: &[],
         write_fails: &[],
-        status: Status::FirstPathOnly,
+        exit: 13,
         text: b"",
+        line: b"lido: not built yet\n",
         taken: 288,
         calls: true,
     },
@@ -317,7 +335,7 @@ const CASES: &[Case] = &[
         name: "sum too large",
         words: &["run"],
         input: Input {
-            job: JOB,
+            job: Front::Sum,
             front: b"(rTop (rAdd (rNum 9223372036854775807) (rNum 1)))",
             open: b"",
             inner: b"",
@@ -327,8 +345,9 @@ const CASES: &[Case] = &[
         },
         read_fails: &[],
         write_fails: &[],
-        status: Status::FirstPathOnly,
+        exit: 13,
         text: b"",
+        line: b"lido: not built yet\n",
         taken: 303,
         calls: true,
     },
@@ -336,7 +355,7 @@ const CASES: &[Case] = &[
         name: "sum too small",
         words: &["run"],
         input: Input {
-            job: JOB,
+            job: Front::Sum,
             front: b"(rTop (rAdd (rNum -9223372036854775808) (rNum -1)))",
             open: b"",
             inner: b"",
@@ -346,8 +365,9 @@ const CASES: &[Case] = &[
         },
         read_fails: &[],
         write_fails: &[],
-        status: Status::FirstPathOnly,
+        exit: 13,
         text: b"",
+        line: b"lido: not built yet\n",
         taken: 305,
         calls: true,
     },
@@ -355,7 +375,7 @@ const CASES: &[Case] = &[
         name: "inner sum too large",
         words: &["run"],
         input: Input {
-            job: JOB,
+            job: Front::Sum,
             front: b"(rTop (rAdd (rAdd (rNum 9223372036854775807) (rNum 1)) (rNum -1)))",
             open: b"",
             inner: b"",
@@ -365,8 +385,9 @@ const CASES: &[Case] = &[
         },
         read_fails: &[],
         write_fails: &[],
-        status: Status::FirstPathOnly,
+        exit: 13,
         text: b"",
+        line: b"lido: not built yet\n",
         taken: 320,
         calls: true,
     },
@@ -374,7 +395,7 @@ const CASES: &[Case] = &[
         name: "unknown rule",
         words: &["run"],
         input: Input {
-            job: JOB,
+            job: Front::Sum,
             front: b"(rTop (rFoo))",
             open: b"",
             inner: b"",
@@ -384,8 +405,9 @@ const CASES: &[Case] = &[
         },
         read_fails: &[],
         write_fails: &[],
-        status: Status::FirstPathOnly,
+        exit: 13,
         text: b"",
+        line: b"lido: not built yet\n",
         taken: 267,
         calls: true,
     },
@@ -393,7 +415,7 @@ const CASES: &[Case] = &[
         name: "another root",
         words: &["run"],
         input: Input {
-            job: JOB,
+            job: Front::Sum,
             front: b"(rNum 3)",
             open: b"",
             inner: b"",
@@ -403,8 +425,9 @@ const CASES: &[Case] = &[
         },
         read_fails: &[],
         write_fails: &[],
-        status: Status::FirstPathOnly,
+        exit: 13,
         text: b"",
+        line: b"lido: not built yet\n",
         taken: 262,
         calls: true,
     },
@@ -412,7 +435,7 @@ const CASES: &[Case] = &[
         name: "top below the top",
         words: &["run"],
         input: Input {
-            job: JOB,
+            job: Front::Sum,
             front: b"(rTop (rTop (rNum 3)))",
             open: b"",
             inner: b"",
@@ -422,8 +445,9 @@ const CASES: &[Case] = &[
         },
         read_fails: &[],
         write_fails: &[],
-        status: Status::FirstPathOnly,
+        exit: 13,
         text: b"",
+        line: b"lido: not built yet\n",
         taken: 276,
         calls: true,
     },
@@ -431,7 +455,7 @@ const CASES: &[Case] = &[
         name: "child missing",
         words: &["run"],
         input: Input {
-            job: JOB,
+            job: Front::Sum,
             front: b"(rTop)",
             open: b"",
             inner: b"",
@@ -441,8 +465,9 @@ const CASES: &[Case] = &[
         },
         read_fails: &[],
         write_fails: &[],
-        status: Status::FirstPathOnly,
+        exit: 13,
         text: b"",
+        line: b"lido: not built yet\n",
         taken: 260,
         calls: true,
     },
@@ -450,7 +475,7 @@ const CASES: &[Case] = &[
         name: "string for a number",
         words: &["run"],
         input: Input {
-            job: JOB,
+            job: Front::Sum,
             front: b"(rTop (rNum \"x\"))",
             open: b"",
             inner: b"",
@@ -460,8 +485,9 @@ const CASES: &[Case] = &[
         },
         read_fails: &[],
         write_fails: &[],
-        status: Status::FirstPathOnly,
+        exit: 13,
         text: b"",
+        line: b"lido: not built yet\n",
         taken: 271,
         calls: true,
     },
@@ -469,7 +495,7 @@ const CASES: &[Case] = &[
         name: "child too many",
         words: &["run"],
         input: Input {
-            job: JOB,
+            job: Front::Sum,
             front: b"(rTop (rNum 3 4))",
             open: b"",
             inner: b"",
@@ -479,8 +505,9 @@ const CASES: &[Case] = &[
         },
         read_fails: &[],
         write_fails: &[],
-        status: Status::FirstPathOnly,
+        exit: 13,
         text: b"",
+        line: b"lido: not built yet\n",
         taken: 271,
         calls: true,
     },
@@ -488,7 +515,7 @@ const CASES: &[Case] = &[
         name: "text behind the tree",
         words: &["run"],
         input: Input {
-            job: JOB,
+            job: Front::Sum,
             front: b"(rTop (rNum 3)) 4",
             open: b"",
             inner: b"",
@@ -498,8 +525,9 @@ const CASES: &[Case] = &[
         },
         read_fails: &[],
         write_fails: &[],
-        status: Status::FirstPathOnly,
+        exit: 13,
         text: b"",
+        line: b"lido: not built yet\n",
         taken: 271,
         calls: true,
     },
@@ -507,7 +535,7 @@ const CASES: &[Case] = &[
         name: "no tree",
         words: &["run"],
         input: Input {
-            job: JOB,
+            job: Front::Sum,
             front: b"",
             open: b"",
             inner: b"",
@@ -517,8 +545,9 @@ const CASES: &[Case] = &[
         },
         read_fails: &[],
         write_fails: &[],
-        status: Status::FirstPathOnly,
+        exit: 13,
         text: b"",
+        line: b"lido: not built yet\n",
         taken: 254,
         calls: true,
     },
@@ -526,7 +555,7 @@ const CASES: &[Case] = &[
         name: "nested on the right",
         words: &["run"],
         input: Input {
-            job: JOB,
+            job: Front::Sum,
             front: b"(rTop ",
             open: b"(rAdd (rNum 1) ",
             inner: b"(rNum 1)",
@@ -536,8 +565,9 @@ const CASES: &[Case] = &[
         },
         read_fails: &[],
         write_fails: &[],
-        status: Status::Done,
+        exit: 0,
         text: b"300001",
+        line: b"",
         taken: 4_810_000,
         calls: true,
     },
@@ -545,7 +575,7 @@ const CASES: &[Case] = &[
         name: "nested on the left",
         words: &["run"],
         input: Input {
-            job: JOB,
+            job: Front::Sum,
             front: b"(rTop ",
             open: b"(rAdd ",
             inner: b"(rNum 1)",
@@ -555,8 +585,9 @@ const CASES: &[Case] = &[
         },
         read_fails: &[],
         write_fails: &[],
-        status: Status::Done,
+        exit: 0,
         text: b"300001",
+        line: b"",
         taken: 4_810_000,
         calls: true,
     },
@@ -564,7 +595,7 @@ const CASES: &[Case] = &[
         name: "most nodes",
         words: &["run"],
         input: Input {
-            job: JOB,
+            job: Front::Sum,
             front: b"(rTop ",
             open: b"(rAdd(rNum 1)",
             inner: b"(rNum 1)",
@@ -574,8 +605,9 @@ const CASES: &[Case] = &[
         },
         read_fails: &[],
         write_fails: &[],
-        status: Status::Done,
+        exit: 0,
         text: b"524288",
+        line: b"",
         taken: 7_340_287,
         calls: true,
     },
@@ -583,7 +615,7 @@ const CASES: &[Case] = &[
         name: "too many nodes",
         words: &["run"],
         input: Input {
-            job: JOB,
+            job: Front::Sum,
             front: b"(rTop ",
             open: b"(rAdd(rNum 1)",
             inner: b"(rNum 1)",
@@ -593,8 +625,9 @@ const CASES: &[Case] = &[
         },
         read_fails: &[],
         write_fails: &[],
-        status: Status::FirstPathOnly,
+        exit: 13,
         text: b"",
+        line: b"lido: not built yet\n",
         taken: 7_340_301,
         calls: true,
     },
@@ -602,7 +635,7 @@ const CASES: &[Case] = &[
         name: "as long as can be",
         words: &["run"],
         input: Input {
-            job: JOB,
+            job: Front::Sum,
             front: TREE,
             open: b"",
             inner: b"",
@@ -612,8 +645,9 @@ const CASES: &[Case] = &[
         },
         read_fails: &[],
         write_fails: &[],
-        status: Status::Done,
+        exit: 0,
         text: b"7",
+        line: b"",
         taken: 8_388_608,
         calls: true,
     },
@@ -621,7 +655,7 @@ const CASES: &[Case] = &[
         name: "blanks alone",
         words: &["run"],
         input: Input {
-            job: b"",
+            job: Front::Text(b""),
             front: b"",
             open: b"",
             inner: b"",
@@ -631,8 +665,9 @@ const CASES: &[Case] = &[
         },
         read_fails: &[],
         write_fails: &[],
-        status: Status::FirstPathOnly,
+        exit: 5,
         text: b"",
+        line: b"lido: no %%PTG line\n",
         taken: 8_388_608,
         calls: true,
     },
@@ -640,7 +675,7 @@ const CASES: &[Case] = &[
         name: "too long",
         words: &["run"],
         input: Input {
-            job: JOB,
+            job: Front::Sum,
             front: TREE,
             open: b"",
             inner: b"",
@@ -650,8 +685,9 @@ const CASES: &[Case] = &[
         },
         read_fails: &[],
         write_fails: &[],
-        status: Status::InputTooLong,
+        exit: 4,
         text: b"",
+        line: b"lido: input longer than 8388608 bytes\n",
         taken: 8_388_609,
         calls: true,
     },
@@ -659,7 +695,7 @@ const CASES: &[Case] = &[
         name: "much too long",
         words: &["run"],
         input: Input {
-            job: JOB,
+            job: Front::Sum,
             front: TREE,
             open: b"",
             inner: b"",
@@ -669,16 +705,342 @@ const CASES: &[Case] = &[
         },
         read_fails: &[],
         write_fails: &[],
-        status: Status::InputTooLong,
+        exit: 4,
         text: b"",
+        line: b"lido: input longer than 8388608 bytes\n",
         taken: 8_388_609,
+        calls: true,
+    },
+    Case {
+        name: "no workers",
+        words: &["run", "workers=0"],
+        input: Input {
+            job: Front::Sum,
+            front: TREE,
+            open: b"",
+            inner: b"",
+            close: b"",
+            count: 0,
+            size: 0,
+        },
+        read_fails: &[],
+        write_fails: &[],
+        exit: 1,
+        text: b"",
+        line: b"lido: word 1 range\n",
+        taken: 0,
+        calls: false,
+    },
+    Case {
+        name: "a word twice",
+        words: &["run", "min=1", "min=2"],
+        input: Input {
+            job: Front::Sum,
+            front: TREE,
+            open: b"",
+            inner: b"",
+            close: b"",
+            count: 0,
+            size: 0,
+        },
+        read_fails: &[],
+        write_fails: &[],
+        exit: 1,
+        text: b"",
+        line: b"lido: word 2 repeated\n",
+        taken: 0,
+        calls: false,
+    },
+    Case {
+        name: "no command",
+        words: &["walk"],
+        input: Input {
+            job: Front::Sum,
+            front: TREE,
+            open: b"",
+            inner: b"",
+            close: b"",
+            count: 0,
+            size: 0,
+        },
+        read_fails: &[],
+        write_fails: &[],
+        exit: 1,
+        text: b"",
+        line: b"lido: word 0 unknown\n",
+        taken: 0,
+        calls: false,
+    },
+    Case {
+        name: "no number",
+        words: &["big"],
+        input: Input {
+            job: Front::Sum,
+            front: TREE,
+            open: b"",
+            inner: b"",
+            close: b"",
+            count: 0,
+            size: 0,
+        },
+        read_fails: &[],
+        write_fails: &[],
+        exit: 1,
+        text: b"",
+        line: b"lido: word 1 missing\n",
+        taken: 0,
+        calls: false,
+    },
+    Case {
+        name: "order alone",
+        words: &["order"],
+        input: Input {
+            job: Front::Sum,
+            front: TREE,
+            open: b"",
+            inner: b"",
+            close: b"",
+            count: 0,
+            size: 0,
+        },
+        read_fails: &[],
+        write_fails: &[],
+        exit: 13,
+        text: b"",
+        line: b"lido: not built yet\n",
+        taken: 0,
+        calls: false,
+    },
+    Case {
+        name: "big with a number",
+        words: &["big", "1"],
+        input: Input {
+            job: Front::Sum,
+            front: TREE,
+            open: b"",
+            inner: b"",
+            close: b"",
+            count: 0,
+            size: 0,
+        },
+        read_fails: &[],
+        write_fails: &[],
+        exit: 13,
+        text: b"",
+        line: b"lido: not built yet\n",
+        taken: 0,
+        calls: false,
+    },
+    Case {
+        name: "two workers",
+        words: &["run", "workers=2"],
+        input: Input {
+            job: Front::Sum,
+            front: TREE,
+            open: b"",
+            inner: b"",
+            close: b"",
+            count: 0,
+            size: 0,
+        },
+        read_fails: &[],
+        write_fails: &[],
+        exit: 13,
+        text: b"",
+        line: b"lido: not built yet\n",
+        taken: 0,
+        calls: false,
+    },
+    Case {
+        name: "one worker",
+        words: &["run", "workers=1"],
+        input: Input {
+            job: Front::Sum,
+            front: TREE,
+            open: b"",
+            inner: b"",
+            close: b"",
+            count: 0,
+            size: 0,
+        },
+        read_fails: &[],
+        write_fails: &[],
+        exit: 13,
+        text: b"",
+        line: b"lido: not built yet\n",
+        taken: 0,
+        calls: false,
+    },
+    Case {
+        name: "empty input",
+        words: &["run"],
+        input: Input {
+            job: Front::Text(b""),
+            front: b"",
+            open: b"",
+            inner: b"",
+            close: b"",
+            count: 0,
+            size: 0,
+        },
+        read_fails: &[],
+        write_fails: &[],
+        exit: 5,
+        text: b"",
+        line: b"lido: no %%PTG line\n",
+        taken: 0,
+        calls: true,
+    },
+    Case {
+        name: "no tree line",
+        words: &["run"],
+        input: Input {
+            job: Front::Text(b"%%PTG\n"),
+            front: b"",
+            open: b"",
+            inner: b"",
+            close: b"",
+            count: 0,
+            size: 0,
+        },
+        read_fails: &[],
+        write_fails: &[],
+        exit: 6,
+        text: b"",
+        line: b"lido: no %%TREE line\n",
+        taken: 6,
+        calls: true,
+    },
+    Case {
+        name: "one blank too many",
+        words: &["run"],
+        input: Input {
+            job: Front::Text(b""),
+            front: b"",
+            open: b"",
+            inner: b"",
+            close: b"",
+            count: 0,
+            size: 8388609,
+        },
+        read_fails: &[],
+        write_fails: &[],
+        exit: 4,
+        text: b"",
+        line: b"lido: input longer than 8388608 bytes\n",
+        taken: 8388609,
+        calls: true,
+    },
+    Case {
+        name: "no token",
+        words: &["run"],
+        input: Input {
+            job: Front::Text(b"RULE r ~\n%%PTG\n%%TREE\n"),
+            front: b"",
+            open: b"",
+            inner: b"",
+            close: b"",
+            count: 0,
+            size: 0,
+        },
+        read_fails: &[],
+        write_fails: &[],
+        exit: 7,
+        text: b"",
+        line: b"lido: spec Lexical at 7\n",
+        taken: 22,
+        calls: true,
+    },
+    Case {
+        name: "no token, and no section line",
+        words: &["run"],
+        input: Input {
+            job: Front::Text(b"RULE r ~\n"),
+            front: b"",
+            open: b"",
+            inner: b"",
+            close: b"",
+            count: 0,
+            size: 0,
+        },
+        read_fails: &[],
+        write_fails: &[],
+        exit: 5,
+        text: b"",
+        line: b"lido: no %%PTG line\n",
+        taken: 9,
+        calls: true,
+    },
+    Case {
+        name: "no token, and no tree line",
+        words: &["run"],
+        input: Input {
+            job: Front::Text(b"RULE r ~\n%%PTG\n"),
+            front: b"",
+            open: b"",
+            inner: b"",
+            close: b"",
+            count: 0,
+            size: 0,
+        },
+        read_fails: &[],
+        write_fails: &[],
+        exit: 6,
+        text: b"",
+        line: b"lido: no %%TREE line\n",
+        taken: 15,
+        calls: true,
+    },
+    Case {
+        name: "no token among the patterns",
+        words: &["run"],
+        input: Input {
+            job: Front::Text(b"RULE r\n%%PTG\n~\n%%TREE\n"),
+            front: b"",
+            open: b"",
+            inner: b"",
+            close: b"",
+            count: 0,
+            size: 0,
+        },
+        read_fails: &[],
+        write_fails: &[],
+        exit: 13,
+        text: b"",
+        line: b"lido: not built yet\n",
+        taken: 22,
+        calls: true,
+    },
+    Case {
+        name: "no token in the tree",
+        words: &["run"],
+        input: Input {
+            job: Front::Text(b"RULE r\n%%PTG\n%%TREE\n~\n"),
+            front: b"",
+            open: b"",
+            inner: b"",
+            close: b"",
+            count: 0,
+            size: 0,
+        },
+        read_fails: &[],
+        write_fails: &[],
+        exit: 13,
+        text: b"",
+        line: b"lido: not built yet\n",
+        taken: 22,
         calls: true,
     },
 ];
 
 /// The bytes of an input. Where parts are nested, one more bracket closes the front's.
 fn bytes_of(alloc: Global, input: &Input) -> Result<Vec<u8>, AllocError> {
-    let mut bytes = input.job.to_vec(alloc)?;
+    let job = match input.job {
+        Front::Sum => JOB,
+        Front::Difference => MINUS_JOB,
+        Front::Text(text) => text,
+    };
+    let mut bytes = job.to_vec(alloc)?;
     bytes.extend_from_slice(input.front)?;
     for _ in 0..input.count {
         bytes.extend_from_slice(input.open)?;
@@ -739,13 +1101,13 @@ fn calls(rt: HostRuntime) -> Result<(), Fail> {
             Vec::with_capacity(alloc, 64)?,
             case.write_fails.to_vec(alloc)?,
         );
-        let mut err = sink(Vec::new(alloc), Vec::new(alloc));
+        let mut err = sink(Vec::with_capacity(alloc, 64)?, Vec::new(alloc));
         let status = lido(&rt, alloc, &words, &mut src, &mut out, &mut err, &OpenGate);
-        assert_eq!(rt; status, case.status, "{}", case.name);
+        assert_eq!(rt; status.exit(), case.exit, "{}", case.name);
         assert_eq!(rt; out.bytes.as_slice(), case.text, "{}", case.name);
+        assert_eq!(rt; err.bytes.as_slice(), case.line, "{}", case.name);
         assert_eq!(rt; src.next, case.taken, "{}", case.name);
         assert_eq!(rt; src.calls > 0, case.calls, "{}", case.name);
-        assert_eq!(rt; err.calls, 0, "{}", case.name);
     }
     Ok(())
 }
@@ -760,7 +1122,7 @@ fn cut_trees(rt: HostRuntime) -> Result<(), Fail> {
         assert!(rt; bytes.len() < 9_000_000);
         let mut src = source(bytes, Vec::new(alloc));
         let mut out = sink(Vec::with_capacity(alloc, 64)?, Vec::new(alloc));
-        let mut err = sink(Vec::new(alloc), Vec::new(alloc));
+        let mut err = sink(Vec::with_capacity(alloc, 64)?, Vec::new(alloc));
         let status = lido(&rt, alloc, &words, &mut src, &mut out, &mut err, &OpenGate);
         let whole = size == 31;
         assert_eq!(rt; status.exit(), if whole { 0 } else { 13 }, "{}", size);
@@ -768,5 +1130,50 @@ fn cut_trees(rt: HostRuntime) -> Result<(), Fail> {
     }
     one_attribution();
     three_and_four();
+    Ok(())
+}
+
+/// `err` fails at one call, each in turn, and once not at all; and where `out` failed before, that stays.
+#[test]
+fn faults_of_err(rt: HostRuntime) -> Result<(), Fail> {
+    let alloc = rt.alloc();
+    let line = b"lido: word 1 range\n";
+    let words = words_of(alloc, &["run", "workers=0"])?;
+    for call in 0..20u32 {
+        let mut src = source(Vec::new(alloc), Vec::new(alloc));
+        let mut out = sink(Vec::new(alloc), Vec::new(alloc));
+        let mut err = sink(Vec::with_capacity(alloc, 64)?, vec![in alloc; call]?);
+        let status = lido(&rt, alloc, &words, &mut src, &mut out, &mut err, &OpenGate);
+        let right = match status {
+            Status::WriteFault {
+                sink: Which::Err,
+                written,
+            } => call < 19 && written == u64::from(call),
+            Status::Words {
+                index: 1,
+                kind: WordKind::Range,
+            } => call == 19,
+            _ => false,
+        };
+        assert!(rt; right, "{}", call);
+        assert_eq!(rt; err.bytes.as_slice(), &line[..call as usize], "{}", call);
+    }
+    let words = words_of(alloc, &["run"])?;
+    let mut bytes = JOB.to_vec(alloc)?;
+    bytes.extend_from_slice(TREE)?;
+    assert!(rt; bytes.len() < 9_000_000);
+    let mut src = source(bytes, Vec::new(alloc));
+    let mut out = sink(Vec::new(alloc), Vec::new(alloc));
+    let mut err = sink(Vec::new(alloc), Vec::new(alloc));
+    let status = lido(&rt, alloc, &words, &mut src, &mut out, &mut err, &OpenGate);
+    let stays = matches!(
+        &status,
+        Status::WriteFault {
+            sink: Which::Out,
+            written: 0
+        }
+    );
+    assert!(rt; stays);
+    assert_eq!(rt; err.faults, 1);
     Ok(())
 }

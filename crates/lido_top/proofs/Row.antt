@@ -1,5 +1,5 @@
 -- The job with the tree of 3 and 4.
-use Rattle.std.proofs.Common.{◌≡◌, ℕ, ℤ, ◌<◌, List, [], ◌∷◌, ◌++◌, length, codes, pos, Some, None, Ok, refl, arith, rules, zero, suc, inl}
+use Rattle.std.proofs.Common.{◌≡◌, ℕ, ℤ, ◌<◌, List, [], ◌∷◌, length, codes, pos, Some, None, Ok, refl, arith, rules, zero, suc, inl}
 use Rattle.std.specs.Fmt.{digits, signed_decimal}
 use Rattle.lido_base.specs.Phases.{OneOf}
 use Rattle.tree_reader.specs.declared.form.TreeNode.{TreeNode}

@@ -1,12 +1,11 @@
 -- Where the example's job is cut.
-use Rattle.std.proofs.Common.{◌≡◌, ◌≢◌, ℕ, zero, suc, ◌+◌, ◌-◌, ◌<◌, ◌≤◌, Bool, true, false, not, cond, ◌==◌, if◌then◌else◌, List, [], ◌∷◌, codes, length, take, drop, get_or, Ok, refl, ap, sym, ◌∙◌, subst, arith, inl, inr}
+use Rattle.std.proofs.Common.{◌≡◌, ◌≢◌, ℕ, zero, suc, ◌+◌, ◌-◌, ◌<◌, ◌≤◌, Bool, true, false, not, cond, ◌==◌, if◌then◌else◌, List, [], ◌∷◌, codes, take, drop, Ok, refl, ap, ◌∙◌, subst, arith, inl, inr}
 use Rattle.std.specs.List.{prefix_len, slice_index, slice_range}
 use Rattle.std.specs.Str.Lines.{strip_carriage_return}
 use Rattle.std.proofs.lemmas.Bool.{cases_Bool, eq-eqb}
 use Rattle.std.proofs.lemmas.List.{get_or-drop}
 use Rattle.lido_lexer.proofs.Lists.{head_of, no_bytes}
-use Rattle.job_text.specs.Lines.{IsLine, Says, IsFirst}
-use Rattle.job_text.specs.Cutting.{IsCut}
+use Rattle.job_text.specs.Lines.{IsFirst}
 use Rattle.lido_top.specs.Answer.{SectionsOf}
 use Rattle.lido_top.proofs.RowText.{job, sections}
 

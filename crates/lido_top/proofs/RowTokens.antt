@@ -1,12 +1,12 @@
 -- The tokens of the example's specification, found by a search of which each step is a step of `Lexes`.
-use Rattle.std.proofs.Common.{◌≡◌, ℕ, zero, suc, ◌<◌, ◌≤◌, pos, Bool, true, false, ◌==◌, nat_le, nat_lt, List, [], ◌∷◌, length, take_while, Option, Some, None, option_map, is_some, Ok, IsTrue, refl, ap, ◌∙◌}
+use Rattle.std.proofs.Common.{◌≡◌, ℕ, zero, suc, ◌<◌, pos, Bool, true, false, ◌==◌, nat_le, nat_lt, List, [], ◌∷◌, length, take_while, Option, Some, None, option_map, is_some, Ok, IsTrue, refl, ap, ◌∙◌}
 use Rattle.std.proofs.lemmas.Bool.{leb-true, ltb-true, eqb-true}
 use Rattle.lido_lexer.specs.declared.keyword.Keyword.{Keyword}
 use Rattle.lido_lexer.specs.declared.sign.Sign.{Sign as SignOf}
 use Rattle.lido_lexer.specs.Bytes.{is_white, is_letter, is_name_byte, is_digit, is_literal_byte, first_is, behind, value_in}
 use Rattle.lido_lexer.specs.Gaps.{white}
 use Rattle.lido_lexer.specs.Keywords.{keyword_of}
-use Rattle.lido_lexer.specs.Signs.{begins_comment, sign_of, sign_spelling}
+use Rattle.lido_lexer.specs.Signs.{begins_comment, sign_of}
 use Rattle.lido_lexer.specs.Tokens.{Shown, Word, Key, Int, Literal, Sign, IsFront}
 use Rattle.lido_lexer.specs.Lexing.{Placed, placed, Lexes, ended, after_gap, with_token, Lexing}
 use Rattle.lido_top.specs.Answer.{part, TokensOf}

@@ -1,12 +1,12 @@
 -- The one word `run` is a command line without a fault.
-use Rattle.std.proofs.Common.{◌≡◌, ℕ, zero, suc, Bool, true, false, if◌then◌else◌, List, [], ◌∷◌, Some, None, Ok, refl, ap, arith, inl, take}
+use Rattle.std.proofs.Common.{◌≡◌, ℕ, zero, suc, Bool, true, false, if◌then◌else◌, List, [], ◌∷◌, Some, None, Ok, refl, arith, inl, take}
 use Rattle.lido_base.specs.Phases.{OneOf}
 use Rattle.lido_lexer.proofs.BytesLemmas.{unequal}
 use Rattle.job_text.specs.declared.command_line.Command.{Command}
 use Rattle.job_text.specs.declared.command_line.Command.TheVariants as command
 use Rattle.job_text.specs.declared.forms.Verb.TheVariants as verb
 use Rattle.job_text.specs.declared.forms.Form.TheVariants as form
-use Rattle.job_text.specs.Forms.{verb_of, has_form, is_number, is_identifier, number_of, after}
+use Rattle.job_text.specs.Forms.{verb_of, has_form, number_of, after}
 use Rattle.job_text.specs.CommandLine.{fault_in, fault_at, run_words, IsCommand}
 use Rattle.lido_top.specs.Words.{SaidOf, BuiltOf, CommandOf}
 use Rattle.lido_top.proofs.RowText.{one_word}

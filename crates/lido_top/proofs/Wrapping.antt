@@ -1,5 +1,5 @@
 -- A phase whose faults are seen wraps those of the whole.
-use Rattle.std.proofs.Common.{◌≡◌, ◌⊎◌, Result, Ok, Err, refl, ap, sym, ◌∙◌, subst, inl, inr}
+use Rattle.std.proofs.Common.{◌≡◌, ◌⊎◌, Result, Ok, Err, ap, sym, ◌∙◌, inl, inr}
 use Rattle.lido_base.specs.Phases.{IsThe, Wrapped}
 
 ok_only : {A F S : Type 0} (wrap : F → S) (p : Result A F → Type 0) (a : A) → IsThe p (Ok a) → (s : Result A S) → Wrapped wrap p s → s ≡ Ok a

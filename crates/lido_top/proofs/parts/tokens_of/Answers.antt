@@ -1,4 +1,4 @@
-use Rattle.std.proofs.Common.{◌≡◌, ◌⊎◌, ℕ, List, Result, Ok, Err, map, refl, ap, subst}
+use Rattle.std.proofs.Common.{◌≡◌, ◌⊎◌, ℕ, List, Ok, Err, map, refl, ap, subst}
 use Rattle.lido_base.specs.Phases.{IsThe}
 use Rattle.lido_syntax.specs.declared.fault.SpecFault.TheVariants as spec
 use Rattle.lido_lexer.specs.declared.token.LexFault.TheVariants as fault

@@ -1,5 +1,5 @@
 -- The job with the tree of 3 and 4.
-use Rattle.std.proofs.Common.{◌≡◌, ℕ, ℤ, ◌<◌, List, [], ◌∷◌, ◌++◌, length, codes, pos, Some, None, Ok, refl, arith, rules, zero, suc, inl}
+use Rattle.std.proofs.Common.{◌≡◌, ℕ, ℤ, ◌<◌, List, [], ◌∷◌, length, codes, pos, Some, None, Ok, refl, arith, rules, zero, suc, inl}
 use Rattle.std.specs.Fmt.{digits, signed_decimal}
 use Rattle.lido_base.specs.Phases.{OneOf}
 use Rattle.tree_reader.specs.declared.form.TreeNode.{TreeNode}
@@ -7,15 +7,14 @@ use Rattle.tree_reader.specs.declared.form.Child.TheVariants as children
 use Rattle.tree_reader.specs.Marks.{Spells}
 use Rattle.tree_reader.specs.Trees.{Forest, none, node, leaf, marks_of, IsTree}
 use Rattle.tree_reader.proofs.Order.{tree_preorder}
-use Rattle.lido_top.specs.declared.job.TheConstants.{SUM_JOB}
-use Rattle.lido_top.specs.declared.words.Command.TheVariants as command
 use Rattle.lido_top.specs.Sums.{value_at, sum_at, AllStay}
 use Rattle.lido_top.specs.Job.{sum_rules, IsResult}
-use Rattle.lido_top.specs.Answer.{AnswerOf}
+use Rattle.lido_top.specs.Answer.{TextOf, FirstPathOf, AnswerOf}
 use Rattle.lido_top.proofs.SumsLemmas.{only_one}
-
-abbrev tree_text : List ℕ
-tree_text = codes "(rTop (rAdd (rNum 3) (rNum 4)))\n"
+use Rattle.lido_top.proofs.RowText.{one_word, tree_text, job, sections}
+use Rattle.lido_top.proofs.RowWords.{said, is_said}
+use Rattle.lido_top.proofs.RowSections.{is_cut}
+use Rattle.lido_top.proofs.RowTokens.{tokens, are_tokens}
 
 abbrev below : Forest
 below = node 1 (node 2 (leaf (pos 3) none) (node 2 (leaf (pos 4) none) none)) none
@@ -111,7 +110,7 @@ seven : codes "7" ≡ signed_decimal (pos 7)
 unfolding digits
 seven = refl
 
-pub is_result : IsResult (SUM_JOB.now ++ tree_text) (codes "7")
+is_result : IsResult job (codes "7")
 is_result = record {
   tree_text = tree_text;
   job = refl;
@@ -123,8 +122,8 @@ is_result = record {
   number = seven;
 }
 
-pub is_answer : AnswerOf (codes "run" ∷ []) (SUM_JOB.now ++ tree_text) (Ok (codes "7"))
-unfolding OneOf
+pub is_answer : AnswerOf one_word job (Ok (codes "7"))
+unfolding OneOf TextOf FirstPathOf
 is_answer =
-    let size : length (SUM_JOB.now ++ tree_text) ≡ 286 = refl in
-    inl (command.Run, refl, inl (tt, omega (arith, size), is_result))
+    let size : length job ≡ 286 = refl in
+    inl (said, is_said, inl (tt, omega (arith, size), inl (sections, is_cut, inl (tokens, are_tokens, is_result))))

@@ -4,11 +4,9 @@ use Rattle.lido_base.specs.Phases.{IsThe, OneOf}
 use Rattle.lido_base.proofs.PhasesLemmas.{the_one_of, one_as, none_as}
 use Rattle.tree_reader.specs.declared.form.FormFault.{FormFault}
 use Rattle.tree_reader.specs.declared.form.FormFault.TheVariants as fault
-use Rattle.lido_top.specs.declared.words.Command.{Command}
-use Rattle.lido_top.specs.declared.words.Command.TheVariants as command
-use Rattle.lido_top.specs.declared.status.Status.TheVariants as status
+use Rattle.order_report.specs.declared.status.Status.TheVariants as status
 use Rattle.lido_top.specs.Job.{IsResult}
-use Rattle.lido_top.specs.Answer.{TextOf}
+use Rattle.lido_top.specs.Answer.{FirstPathOf}
 use Rattle.lido_top.specs.Steps.{ValueOf, NumberOf}
 
 number_on : (bytes text : List ℕ) → NumberOf bytes (Ok text) → IsResult bytes text
@@ -33,9 +31,11 @@ number_faults bytes e (inr (f, none, is)) = let same : e ≡ f = cc in same ∙ 
 the_result : (bytes : List ℕ) (r : Result (List ℕ) FormFault) → IsThe (NumberOf bytes) r → IsThe (OneOf (IsResult bytes) fault.Outside) r
 the_result bytes r the = the_one_of (NumberOf bytes) (IsResult bytes) fault.Outside (number_on bytes) (number_back bytes) (number_faults bytes) r the
 
-pub text_some : (c : Command) (bytes text : List ℕ) → IsThe (NumberOf bytes) (Ok text) → IsThe (TextOf c bytes) (Ok text)
-text_some command.Run bytes text the = one_as (IsResult bytes) fault.Outside status.FirstPathOnly text (the_result bytes (Ok text) the)
+pub text_some : (bytes text : List ℕ) → IsThe (NumberOf bytes) (Ok text) → IsThe (FirstPathOf bytes) (Ok text)
+unfolding FirstPathOf
+text_some bytes text the = one_as (IsResult bytes) fault.Outside status.FirstPathOnly text (the_result bytes (Ok text) the)
 
-pub text_none : (c : Command) (bytes : List ℕ) (e : FormFault) → e ≡ fault.Outside → (e ≡ fault.Memory) ⊎ IsThe (NumberOf bytes) (Err e) → IsThe (TextOf c bytes) (Err status.FirstPathOnly)
-text_none c bytes e is (inl memory) = absurd (cc)
-text_none command.Run bytes e is (inr the) = none_as (IsResult bytes) fault.Outside e status.FirstPathOnly (the_result bytes (Err e) the)
+pub text_none : (bytes : List ℕ) (e : FormFault) → e ≡ fault.Outside → (e ≡ fault.Memory) ⊎ IsThe (NumberOf bytes) (Err e) → IsThe (FirstPathOf bytes) (Err status.FirstPathOnly)
+unfolding FirstPathOf
+text_none bytes e is (inl memory) = absurd (cc)
+text_none bytes e is (inr the) = none_as (IsResult bytes) fault.Outside e status.FirstPathOnly (the_result bytes (Err e) the)

@@ -1,14 +1,18 @@
 //! The steps from an input to its text.
-ghost use Rattle.std.specs.Prelude.{◌≡◌, ◌<◌, string_bytes, length};
+ghost use Rattle.std.specs.Prelude.{◌≡◌, ◌<◌, ◌≤◌, string_bytes, length, IfErr};
+ghost use Rattle.lido_base.specs.Inputs.{most};
 ghost use Rattle.lido_base.specs.Phases.{Gives, OneOf};
 ghost use Rattle.tree_reader.specs.Trees.{IsReadable};
-ghost use Rattle.lido_top.specs.Answer.{TextOf};
+ghost use Rattle.order_report.specs.declared.status.Status.{Status};
+ghost use Rattle.lido_top.specs.Refusals.{IsRefusal};
+ghost use Rattle.lido_top.specs.Answer.{FirstPathOf, TextOf};
 ghost use Rattle.lido_top.specs.Steps.{IsTopText, ValueOf, NumberOf};
 
 use crate::job::{sum_rules, tree_part};
-use crate::status::Status;
+use crate::parts::{sections_of, tokens_of};
 use crate::sums::evaluate;
-use crate::words::Command;
+use lido_base::Strings;
+use order_report::Status;
 use std::alloc::{AllocError, Global};
 use tree_reader::{FormFault, SumRule, read_sum_tree};
 
@@ -56,15 +60,36 @@ fn number_of(alloc: Global, bytes: &[u8]) -> Result<String, FormFault>
     }
 }
 
-/// The text that the command writes for the input, or the status of an input that has none.
-pub fn text_of(alloc: Global, command: Command, bytes: &[u8]) -> Result<String, Status>
-    ensures { Gives string_bytes (TextOf command bytes.now) Status.Memory result }
+/// The text of an input that has the form of the first path.
+fn first_path(alloc: Global, bytes: &[u8]) -> Result<String, Status>
+    ensures gives { Gives string_bytes (FirstPathOf bytes.now) Status.Memory result }
+    ensures refusal { IfErr result IsRefusal }
 {
-    match command {
-        Command::Run => match number_of(alloc, bytes) {
-            Ok(text) => Ok(text),
-            Err(FormFault::Outside) => Err(Status::FirstPathOnly),
-            Err(FormFault::Memory) => Err(Status::Memory),
-        },
+    match number_of(alloc, bytes) {
+        Ok(text) => Ok(text),
+        Err(FormFault::Outside) => Err(Status::FirstPathOnly),
+        Err(FormFault::Memory) => Err(Status::Memory),
+    }
+}
+
+/// The text of the input, or the status of the first refusal that stands in it.
+#[tactic(auto, unfolding(crate::specs::Answer::TextOf))]
+pub fn text_of(alloc: Global, bytes: &[u8]) -> Result<String, Status>
+    requires { length bytes.now ≤ most }
+    ensures gives { Gives string_bytes (TextOf bytes.now) Status.Memory result }
+    ensures refusal { IfErr result IsRefusal }
+{
+    let sections = match sections_of(bytes) {
+        Ok(sections) => sections,
+        Err(status) => return Err(status),
+    };
+    let mut strings = Strings::keyed_by(alloc, bytes);
+    match tokens_of(alloc, bytes, sections, &mut strings) {
+        Ok(_) => {}
+        Err(status) => return Err(status),
+    }
+    match first_path(alloc, bytes) {
+        Ok(text) => Ok(text),
+        Err(status) => Err(status),
     }
 }

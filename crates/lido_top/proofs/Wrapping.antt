@@ -1,0 +1,25 @@
+-- A phase whose faults are seen wraps those of the whole.
+use Rattle.std.proofs.Common.{◌≡◌, ◌⊎◌, Result, Ok, Err, ap, sym, ◌∙◌, inl, inr}
+use Rattle.lido_base.specs.Phases.{IsThe, Wrapped}
+
+ok_only : {A F S : Type 0} (wrap : F → S) (p : Result A F → Type 0) (a : A) → IsThe p (Ok a) → (s : Result A S) → Wrapped wrap p s → s ≡ Ok a
+ok_only wrap p a the (Ok b) given = let same : b ≡ a = (let e = the.only (Ok b) given in cc) in ap (λ x. Ok x) same
+ok_only wrap p a the (Err t) (f, refused, is) = absurd (let e = the.only (Err f) refused in cc)
+
+pub wrapped_ok : {A F S : Type 0} (wrap : F → S) (p : Result A F → Type 0) (a : A) → IsThe p (Ok a) → IsThe (Wrapped wrap p) (Ok a)
+wrapped_ok wrap p a the = record { is = the.is; only = ok_only wrap p a the }
+
+err_only : {A F S : Type 0} (wrap : F → S) (p : Result A F → Type 0) (e : F) (t : S) → wrap e ≡ t → IsThe p (Err e) → (s : Result A S) → Wrapped wrap p s → s ≡ Err t
+err_only wrap p e t wraps the (Ok b) given = absurd (let same = the.only (Ok b) given in cc)
+err_only wrap p e t wraps the (Err u) (f, refused, is) =
+    let same : f ≡ e = (let q = the.only (Err f) refused in cc) in
+    ap (λ x. Err x) (is ∙ ap wrap same ∙ wraps)
+
+pub wrapped_err : {A F S : Type 0} (wrap : F → S) (p : Result A F → Type 0) (e : F) (t : S) → wrap e ≡ t → IsThe p (Err e) → IsThe (Wrapped wrap p) (Err t)
+wrapped_err wrap p e t wraps the = record { is = (e, the.is, sym wraps); only = err_only wrap p e t wraps the }
+
+-- want of memory stays want of memory
+pub wrapped_fault : {A F S : Type 0} (wrap : F → S) (p : Result A F → Type 0) (memory e : F) (memory' t : S) → wrap memory ≡ memory' → wrap e ≡ t
+    → (e ≡ memory) ⊎ IsThe p (Err e) → (t ≡ memory') ⊎ IsThe (Wrapped wrap p) (Err t)
+wrapped_fault wrap p memory e memory' t none wraps (inl is) = inl (sym wraps ∙ ap wrap is ∙ none)
+wrapped_fault wrap p memory e memory' t none wraps (inr the) = inr (wrapped_err wrap p e t wraps the)

@@ -1,0 +1,4 @@
+pub mod Marks
+pub mod Language
+pub mod Steps
+pub mod Fronts

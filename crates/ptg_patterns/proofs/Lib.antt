@@ -1,2 +1,5 @@
 pub mod LanguageLemmas
 pub mod FrontsLemmas
+pub mod ArgumentsLemmas
+pub mod FirstLemmas
+pub mod MeaningLemmas

@@ -30,7 +30,7 @@ module _ {A : Type 0} (Clashes : List A → A → Type 0) where
   first_here items before behind item none clashes e = record { behind = behind; parts = e; clashes = clashes; none_before = none }
 
   -- what comes first is no later
-  no_first : (items before : List A) (item : A) → HasNone Clashes items → IsFirst Clashes items before item → ⊥
+  pub no_first : (items before : List A) (item : A) → HasNone Clashes items → IsFirst Clashes items before item → ⊥
   no_first items before item none first = none before item first.behind first.parts first.clashes
 
 one_of : {A : Type 0} (before others behind after : List A) (item other : A) → before ++ item ∷ behind ≡ others ++ other ∷ after

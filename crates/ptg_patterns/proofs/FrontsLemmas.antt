@@ -18,7 +18,7 @@ no_item : (marks : List Mark) (patterns : List Written) → IsWritten marks patt
 no_item marks patterns none = (refl, refl)
 no_item marks patterns (pattern reads few written) = (refl, refl)
 
-item_in_front : (brace : Bool) (marks : List Mark) (items : List Item) (rest : List Mark) (patterns : List Written)
+pub item_in_front : (brace : Bool) (marks : List Mark) (items : List Item) (rest : List Mark) (patterns : List Written)
     → IsItems brace marks items rest → IsWritten rest patterns → AfterItem (item_front brace marks) marks items rest
 item_in_front brace marks items rest patterns end written = no_item marks patterns written
 item_in_front brace marks items rest patterns (text {items = more} reads) written = (more, refl, reads)
@@ -59,7 +59,7 @@ AfterHead None patterns = patterns ≡ []
 AfterHead (Some (at, id, behind)) patterns = (items : List Item) × (rest : List Mark) × (more : List Written) × IsItems false behind items rest × IsWritten rest more
     × (patterns ≡ record { at = at; name = id; items = items } ∷ more)
 
-head_in_front : (marks : List Mark) (patterns : List Written) → IsWritten marks patterns → AfterHead (head_front marks) patterns
+pub head_in_front : (marks : List Mark) (patterns : List Written) → IsWritten marks patterns → AfterHead (head_front marks) patterns
 head_in_front marks patterns none = refl
 head_in_front marks patterns (pattern {rest = rest} {items = items} {patterns = more} reads few written) = (items, rest, more, reads, written, refl)
 

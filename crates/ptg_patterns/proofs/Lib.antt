@@ -3,3 +3,5 @@ pub mod FrontsLemmas
 pub mod ArgumentsLemmas
 pub mod FirstLemmas
 pub mod MeaningLemmas
+pub mod OneLemmas
+pub mod IdsLemmas

@@ -6,3 +6,4 @@ pub mod First
 pub mod Meaning
 pub mod Clashes
 pub mod Tables
+pub mod Texts

@@ -3,10 +3,14 @@
 
 mod arguments;
 mod fault;
+mod function;
 mod marks;
 mod patterns;
 mod reading;
 mod syntax;
+mod text;
 mod written;
 
 pub use fault::PtgFault;
+pub use function::{arg_type, arity};
+pub use text::read_patterns;

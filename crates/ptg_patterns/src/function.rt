@@ -1,16 +1,17 @@
 //! The functions of patterns.
-ghost use Rattle.std.specs.Prelude.{◌≡◌, ◌<◌, ◌^◌, Some, length, slice_get, IfSome};
+ghost use Rattle.std.specs.Prelude.{◌≡◌, ◌<◌, ◌-◌, ◌^◌, min, Some, length, slice_get, IfSome};
 ghost use Rattle.lido_base.specs.declared.pattern.Pattern.{Pattern as PatternOf};
 
 use lido_base::{Patterns, ValueType};
 
-/// How many arguments the function of pattern k has, the first pattern being 0. It takes no memory.
+/// How many arguments the function of pattern k has, the first pattern being 0; no more than a `u32` holds are counted. It takes
+/// no memory.
 pub fn arity(p: &Patterns, k: u32) -> u32
-    requires pattern { k < length p.now.list }
-    requires few { IfSome (slice_get p.now.list k) (λ pattern. length pattern.args < 2 ^ 32) }
-    ensures { IfSome (slice_get p.now.list k) (λ pattern. result ≡ length pattern.args) }
+    requires { k < length p.now.list }
+    ensures { IfSome (slice_get p.now.list k) (λ pattern. result ≡ min (length pattern.args) (2 ^ 32 - 1)) }
 {
-    p.list.as_slice()[k as usize].args.len() as u32
+    let count = p.list.as_slice()[k as usize].args.len();
+    count.min(u32::MAX as usize) as u32
 }
 
 /// The type of argument j of the function of pattern k, the first argument being 0 here; it takes no memory. In the parts of a

@@ -1,12 +1,11 @@
 -- What is in front of marks that are patterns.
-use Rattle.std.proofs.Common.{◌≡◌, ℕ, Bool, true, false, List, [], ◌∷◌, ◌++◌, Option, Some, None, refl, sym, ap, subst, ◌∙◌, append_assoc, append-nil}
+use Rattle.std.proofs.Common.{◌≡◌, ℕ, Bool, false, List, [], ◌∷◌, ◌++◌, Option, Some, None, refl, sym, ap, subst, ◌∙◌, append_assoc, append-nil}
 use Rattle.lido_base.specs.declared.ids.StrId.{StrId}
 use Rattle.ptg_patterns.specs.declared.marks.Mark.{Mark}
-use Rattle.ptg_patterns.specs.declared.marks.Mark.TheVariants as mark
 use Rattle.ptg_patterns.specs.declared.written.Item.{Item}
 use Rattle.ptg_patterns.specs.declared.written.Written.{Written}
 use Rattle.ptg_patterns.specs.Language.{IsItems, end, text, bare, numbered, opened, closed, IsWritten, none, pattern}
-use Rattle.ptg_patterns.specs.Fronts.{content_front, item_front, head_front}
+use Rattle.ptg_patterns.specs.Fronts.{item_front, head_front}
 
 -- the items are what is in front, and those behind it
 abbrev pub AfterItem : Option (Bool × Option Item × List Mark) → List Mark → List Item → List Mark → Type 0

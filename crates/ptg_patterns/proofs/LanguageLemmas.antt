@@ -1,5 +1,5 @@
 -- What may still come is what the grammar says.
-use Rattle.std.proofs.Common.{◌≡◌, ℕ, ◌+◌, ◌≤◌, ◌<◌, nat_lt, suc, Bool, true, false, not, List, [], ◌∷◌, ◌++◌, length, filter, take, drop, get_or, add-one, Option, Some, None, refl, sym, ap, subst, ◌∙◌, arith, append_assoc, append-nil, if◌then◌else◌}
+use Rattle.std.proofs.Common.{◌≡◌, ℕ, ◌+◌, ◌≤◌, ◌<◌, nat_lt, suc, Bool, true, false, List, [], ◌∷◌, ◌++◌, length, filter, take, drop, get_or, add-one, Option, Some, None, refl, sym, ap, subst, ◌∙◌, arith, append_assoc, append-nil, if◌then◌else◌}
 use Rattle.std.proofs.Math.Seq.{take-suc, drop-cons}
 use Rattle.std.proofs.lemmas.List.{take-append-drop, length-take, take_all}
 use Rattle.lido_base.specs.Reading.{SameHead, IsFaultPlace, Begins}

@@ -5,3 +5,4 @@ pub mod FirstLemmas
 pub mod MeaningLemmas
 pub mod OneLemmas
 pub mod IdsLemmas
+pub mod CountsLemmas

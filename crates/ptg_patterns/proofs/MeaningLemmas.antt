@@ -1,26 +1,25 @@
 -- One more item, and one more pattern.
-use Rattle.std.proofs.Common.{◌≡◌, ℕ, ◌+◌, ◌≤◌, ◌<◌, ◌⊎◌, inl, inr, suc, Bool, true, false, ◌||◌, nat_eq, List, [], ◌∷◌, ◌++◌, length, map, take, drop, get_or, slice_set, refl, sym, ap, subst, ◌∙◌, arith, add-one, slice_get, unwrap_or}
-use Rattle.std.specs.List.{list_any}
+use Rattle.std.proofs.Common.{◌≡◌, ℕ, ◌+◌, ◌≤◌, ◌<◌, suc, Bool, true, false, ◌||◌, nat_eq, List, [], ◌∷◌, ◌++◌, length, map, take, drop, get_or, slice_set, refl, sym, ap, ◌∙◌, arith, add-one, slice_get, unwrap_or}
 use Rattle.std.proofs.Math.Seq.{take-suc, drop-cons}
-use Rattle.std.proofs.lemmas.List.{take-append-drop, length-take, map-append, get_or-set_other}
+use Rattle.std.proofs.lemmas.List.{take-append-drop, map-append, get_or-set_other}
 use Rattle.std.proofs.lemmas.List.Folds.{list_any-append}
-use Rattle.std.proofs.lemmas.Bool.{eqb-true, eqb-false, eq-eqb}
+use Rattle.std.proofs.lemmas.Bool.{eqb-true, eqb-false}
 use Rattle.std.proofs.lemmas.Grind.{get_or-set_at}
 use Rattle.lido_base.specs.declared.ids.StrId.{StrId}
 use Rattle.lido_base.specs.declared.pattern.Part.{Part}
 use Rattle.lido_base.specs.declared.pattern.PartPiece.TheVariants as piece
 use Rattle.lido_base.specs.declared.pattern.Pattern.{Pattern}
 use Rattle.ptg_patterns.specs.declared.fault.PtgFault.{PtgFault}
-use Rattle.ptg_patterns.specs.declared.fault.PtgFault.TheVariants.{PtgDuplicate, PtgMixed, Memory}
+use Rattle.ptg_patterns.specs.declared.fault.PtgFault.TheVariants.{PtgMixed}
 use Rattle.ptg_patterns.specs.declared.written.Point.{Point as PointOf}
 use Rattle.ptg_patterns.specs.declared.written.Content.{Content}
 use Rattle.ptg_patterns.specs.declared.written.Content.TheVariants.{Text, Point}
 use Rattle.ptg_patterns.specs.declared.written.Item.{Item}
 use Rattle.ptg_patterns.specs.declared.written.Written.{Written}
-use Rattle.ptg_patterns.specs.First.{HasNone, IsFirst}
+use Rattle.ptg_patterns.specs.First.{HasNone}
 use Rattle.ptg_patterns.specs.Meaning.{points, parts, pattern_of}
 use Rattle.ptg_patterns.specs.Clashes.{IsMixed, IsMixedAt, is_used, is_reserved, is_taken, IsRefused, duplicate, mixed, CantStand, IsClash}
-use Rattle.ptg_patterns.proofs.FirstLemmas.{first_here, none_more}
+use Rattle.ptg_patterns.proofs.FirstLemmas.{first_here}
 
 -- ---- items
 

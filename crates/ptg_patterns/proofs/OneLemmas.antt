@@ -1,5 +1,5 @@
 -- A text says one thing.
-use Rattle.std.proofs.Common.{◌≡◌, ℕ, ◌+◌, ◌-◌, ◌<◌, ◌≤◌, ◌⊎◌, inl, inr, Bool, true, false, List, [], ◌∷◌, ◌++◌, length, map, take, drop, Option, Some, None, slice_get, unwrap_or, Result, Ok, Err, All, refl, sym, ap, subst, ◌∙◌, arith, append_assoc, append-nil}
+use Rattle.std.proofs.Common.{◌≡◌, ℕ, ◌+◌, ◌<◌, ◌≤◌, inl, inr, Bool, true, false, List, [], ◌∷◌, ◌++◌, length, map, take, drop, Option, Some, slice_get, unwrap_or, Result, Ok, Err, All, refl, sym, ap, subst, ◌∙◌, arith, append_assoc}
 use Rattle.std.proofs.lemmas.List.{take-append-drop, take-take}
 use Rattle.std.proofs.lemmas.List.Elements.{All-head, All-tail}
 use Rattle.std.proofs.lemmas.Bool.{cases_order}
@@ -9,26 +9,24 @@ use Rattle.lido_base.specs.Phases.{IsThe}
 use Rattle.lido_base.specs.Texts.{IsDistinctTexts}
 use Rattle.lido_base.proofs.TextsLemmas.{same_place}
 use Rattle.lido_base.specs.declared.pattern.Pattern.{Pattern}
-use Rattle.lido_lexer.specs.Tokens.{Shown, shown_kind}
+use Rattle.lido_lexer.specs.Tokens.{shown_kind}
 use Rattle.lido_lexer.specs.Lexing.{Placed, HasText, shown_in}
 use Rattle.lido_lexer.specs.declared.token.Token.{Token}
 use Rattle.lido_lexer.specs.declared.token.TokenKind.{TokenKind}
 use Rattle.lido_lexer.specs.declared.token.TokenKind.TheVariants as kind
 use Rattle.lido_lexer.proofs.One.{one_cut}
 use Rattle.ptg_patterns.specs.declared.fault.PtgFault.{PtgFault}
-use Rattle.ptg_patterns.specs.declared.fault.PtgFault.TheVariants.{PtgSyntax, PtgDuplicate, PtgMixed}
+use Rattle.ptg_patterns.specs.declared.fault.PtgFault.TheVariants.{PtgSyntax, PtgMixed}
 use Rattle.ptg_patterns.specs.declared.marks.Mark.{Mark}
 use Rattle.ptg_patterns.specs.declared.written.Item.{Item}
 use Rattle.ptg_patterns.specs.declared.written.Point.{Point}
 use Rattle.ptg_patterns.specs.declared.written.Written.{Written}
 use Rattle.ptg_patterns.specs.Marks.{marks_up_to}
 use Rattle.ptg_patterns.specs.Language.{IsItems, end, text, bare, numbered, opened, closed, IsWritten, none, pattern, IsText}
-use Rattle.ptg_patterns.specs.First.{HasNone, IsFirst}
 use Rattle.ptg_patterns.specs.Meaning.{points, pattern_of}
-use Rattle.ptg_patterns.specs.Clashes.{IsMixed, IsMixedAt, is_taken, IsRefused, duplicate, mixed, CantStand, IsClash}
+use Rattle.ptg_patterns.specs.Clashes.{IsMixed, IsMixedAt, IsRefused, duplicate, mixed, CantStand, IsClash}
 use Rattle.ptg_patterns.specs.Texts.{AreTokens, Reads, PatternsOf, place_of}
-use Rattle.ptg_patterns.specs.Fronts.{item_front, head_front}
-use Rattle.ptg_patterns.proofs.FrontsLemmas.{AfterItem, item_in_front, head_in_front}
+use Rattle.ptg_patterns.proofs.FrontsLemmas.{item_in_front, head_in_front}
 use Rattle.ptg_patterns.proofs.FirstLemmas.{one_first, no_first}
 
 -- ---- one fault place

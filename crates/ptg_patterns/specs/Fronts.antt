@@ -1,5 +1,5 @@
 -- What the first marks of a text of patterns say.
-use Rattle.std.specs.Prelude.{ℕ, Bool, true, false, List, [], ◌∷◌, Option, Some, None}
+use Rattle.std.specs.Prelude.{ℕ, Bool, true, false, List, ◌∷◌, Option, Some, None}
 use Rattle.lido_base.specs.declared.ids.StrId.{StrId}
 use Rattle.ptg_patterns.specs.declared.marks.Mark.{Mark}
 use Rattle.ptg_patterns.specs.declared.marks.Mark.TheVariants.{Name, Colon, Fixed, Bare, Numbering, Number, BraceOpen, BraceClose}

@@ -2,13 +2,12 @@
 --   patterns = { name ":" { item } }
 --   item     = string | point | "{" { string | point } "}"
 --   point    = "$" [int] ["int" | "string"]
-use Rattle.std.specs.Prelude.{◌≡◌, ◌≤◌, ℕ, Bool, true, false, List, [], ◌∷◌, length, filter, Some, None}
+use Rattle.std.specs.Prelude.{◌≤◌, ℕ, Bool, true, false, List, [], ◌∷◌, length, filter, Some, None}
 use Rattle.lido_base.specs.declared.ids.StrId.{StrId}
 use Rattle.lido_base.specs.declared.value.ValueType.{ValueType}
 use Rattle.lido_base.specs.declared.value.ValueType.TheVariants as type
 use Rattle.ptg_patterns.specs.declared.marks.Mark.{Mark}
 use Rattle.ptg_patterns.specs.declared.marks.Mark.TheVariants.{Name, Colon, Fixed, Bare, Numbering, Number, BraceOpen, BraceClose, IntWord, StringWord}
-use Rattle.ptg_patterns.specs.declared.written.Point.{Point as PointOf}
 use Rattle.ptg_patterns.specs.declared.written.Content.TheVariants.{Text, Point}
 use Rattle.ptg_patterns.specs.declared.written.Item.{Item}
 use Rattle.ptg_patterns.specs.declared.written.Written.{Written}

@@ -1,11 +1,10 @@
 -- The tokens of a text by their part in a pattern.
-use Rattle.std.specs.Prelude.{◌≡◌, ℕ, ℤ, pos, negsuc, nat_le, nat_eq, Bool, false, ◌&&◌, if◌then◌else◌, List, [], ◌∷◌, ◌++◌, Option, Some, None, map, slice_get, unwrap_or}
+use Rattle.std.specs.Prelude.{ℕ, ℤ, pos, negsuc, nat_le, nat_eq, Bool, false, ◌&&◌, if◌then◌else◌, List, [], ◌∷◌, ◌++◌, Option, Some, None}
 use Rattle.lido_lexer.specs.declared.keyword.Keyword.{Keyword}
 use Rattle.lido_lexer.specs.declared.keyword.Keyword.TheVariants as keyword
 use Rattle.lido_lexer.specs.declared.sign.Sign.{Sign}
 use Rattle.lido_lexer.specs.declared.sign.Sign.TheVariants as sign
 use Rattle.lido_lexer.specs.declared.token.Token.{Token}
-use Rattle.lido_lexer.specs.declared.token.TokenKind.{TokenKind}
 use Rattle.lido_lexer.specs.declared.token.TokenKind.TheVariants as kind
 use Rattle.ptg_patterns.specs.declared.marks.Mark.{Mark}
 use Rattle.ptg_patterns.specs.declared.marks.Mark.TheVariants.{Name, Colon, Fixed, Bare, Numbering, Number, BraceOpen, BraceClose, IntWord, StringWord, Misfit}

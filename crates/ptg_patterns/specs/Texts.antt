@@ -1,5 +1,5 @@
 -- What a text of patterns says.
-use Rattle.std.specs.Prelude.{◌≡◌, ◌⊎◌, ◌++◌, ℕ, List, length, map, All, Option, Some, None, slice_get, unwrap_or, Result, Ok, Err}
+use Rattle.std.specs.Prelude.{◌≡◌, ◌⊎◌, ℕ, List, length, map, All, Option, Some, None, slice_get, unwrap_or, Result, Ok, Err}
 use Rattle.lido_base.specs.Reading.{IsFaultPlace}
 use Rattle.lido_base.specs.declared.pattern.Pattern.{Pattern}
 use Rattle.lido_lexer.specs.Lexing.{IsCutInto, HasText, shown_in}

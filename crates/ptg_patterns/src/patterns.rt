@@ -112,6 +112,7 @@ pub fn patterns(
     requires few { All (λ w. length w.items + 1 < 2 ^ 32) written.now }
     ensures patterns { IfOk result (λ found. found.items ≡ map pattern_of written.now) }
     ensures stand { OnOk result (HasNone (CantStand strings.now) written.now) }
+    ensures agree { OnOk result (All (λ w. HasNone IsMixed (points w.items)) written.now) }
     ensures clash { IfErr result (λ e. (e ≡ PtgFault.Memory) ⊎ IsClash strings.now written.now e) }
 {
     let mut used = vec![in alloc; false; strings.len()]?;

@@ -36,6 +36,8 @@ fn read_tokens(
     requires ids { All (λ token. HasText (length strings.now) token.what) tokens.now }
     ensures patterns { IfOk result (λ found. Reads strings.now size tokens.now stuck (Ok found.items)) }
     ensures fault { IfErr result (λ e. (e ≡ PtgFault.Memory) ⊎ Reads strings.now size tokens.now stuck (Err e)) }
+    ensures arguments { IfOk result (λ found. All (λ pattern. length pattern.args ≤ 64) found.items) }
+    ensures names { IfOk result (λ found. All (λ pattern. pattern.name.0 < length strings.now) found.items) }
 {
     let marks = match marks(alloc, tokens, stuck) {
         Ok(marks) => marks,
@@ -76,6 +78,8 @@ pub fn read_patterns(
     requires { length text.now ≤ 8388608 }
     // With the ids of `strings`, the answer is what the text says, and nothing else is.
     ensures gives { Gives (λ patterns. patterns.list) (PatternsOf strings.new text.now) PtgFault.Memory result }
+    ensures arguments { IfOk result (λ patterns. All (λ pattern. length pattern.args ≤ 64) patterns.list) }
+    ensures names { IfOk result (λ patterns. All (λ pattern. pattern.name.0 < length strings.new) patterns.list) }
     ensures distinct { IsDistinctTexts strings.new }
     ensures kept { Gains strings.old strings.new }
     ensures few { length strings.new ≤ length strings.old + length text.now }

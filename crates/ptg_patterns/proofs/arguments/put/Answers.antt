@@ -1,4 +1,4 @@
-use Rattle.std.proofs.Common.{◌≡◌, ◌∙◌, ◌+◌, max, List, Option, None, length, ap, sym, arith}
+use Rattle.std.proofs.Common.{◌≡◌, ◌∙◌, List, Option, None, ap, sym, arith}
 use Rattle.lido_base.specs.declared.value.ValueType.{ValueType}
 use Rattle.ptg_patterns.specs.Tables.{type_at}
 use Rattle.ptg_patterns.proofs.ArgumentsLemmas.{put_is, no_some}

@@ -1,4 +1,4 @@
-use Rattle.std.proofs.Common.{◌-◌, length, arith}
+use Rattle.std.proofs.Common.{length, arith}
 use Rattle.ptg_patterns.proofs.ArgumentsLemmas.{type_more, all_types}
 use Rattle.ptg_patterns.proofs.arguments.types_from_one.Goals as goal
 

@@ -1,10 +1,10 @@
-use Rattle.std.proofs.Common.{◌≡◌, ◌+◌, ◌<◌, ◌++◌, ◌⊎◌, inl, inr, List, ◌∷◌, [], false, take, get_or, length, sym, subst, arith}
+use Rattle.std.proofs.Common.{inl, inr, List, false, take, sym, subst, arith}
 use Rattle.std.proofs.lemmas.List.{length-take}
 use Rattle.ptg_patterns.specs.declared.written.Point.{Point}
 use Rattle.ptg_patterns.specs.declared.written.Content.TheVariants.{Text}
 use Rattle.ptg_patterns.specs.declared.written.Item.{Item}
 use Rattle.ptg_patterns.specs.First.{HasNone}
-use Rattle.ptg_patterns.specs.Clashes.{IsMixed, IsMixedAt}
+use Rattle.ptg_patterns.specs.Clashes.{IsMixed}
 use Rattle.ptg_patterns.specs.Meaning.{points}
 use Rattle.ptg_patterns.specs.Tables.{Keeps}
 use Rattle.ptg_patterns.proofs.MeaningLemmas.{few_points, points_more, parts_more, mixed_at}

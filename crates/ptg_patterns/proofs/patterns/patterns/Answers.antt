@@ -1,11 +1,12 @@
-use Rattle.std.proofs.Common.{◌≡◌, ◌∙◌, ◌+◌, ◌<◌, ◌⊎◌, ◌++◌, inl, inr, List, ◌∷◌, [], ℕ, Bool, true, false, take, get_or, length, ap, sym, subst, arith}
+use Rattle.std.proofs.Common.{All, ◌≡◌, ◌∙◌, ◌+◌, ◌<◌, ◌++◌, inl, inr, List, ◌∷◌, [], Bool, true, false, take, get_or, length, ap, sym, subst}
 use Rattle.std.proofs.lemmas.List.{length-set}
+use Rattle.std.proofs.lemmas.List.Elements.{All-push}
 use Rattle.lido_base.specs.declared.pattern.Pattern.{Pattern}
 use Rattle.ptg_patterns.specs.declared.fault.PtgFault.TheVariants.{PtgDuplicate}
 use Rattle.ptg_patterns.specs.declared.written.Written.{Written}
 use Rattle.ptg_patterns.specs.First.{HasNone}
-use Rattle.ptg_patterns.specs.Clashes.{CantStand, IsRefused, duplicate, mixed, is_taken, is_used}
-use Rattle.ptg_patterns.specs.Meaning.{pattern_of}
+use Rattle.ptg_patterns.specs.Clashes.{IsMixed, CantStand, IsRefused, duplicate, mixed, is_used}
+use Rattle.ptg_patterns.specs.Meaning.{points, pattern_of}
 use Rattle.ptg_patterns.proofs.FirstLemmas.{none_more}
 use Rattle.ptg_patterns.proofs.MeaningLemmas.{written_more, patterns_more, used_more, taken_is, can_stand, clash_at}
 use Rattle.ptg_patterns.proofs.patterns.patterns.Goals as goal
@@ -51,5 +52,6 @@ loop-one-preserved c =
       size = length-set c.loop-one.used.items one.name.0 true ∙ before.size;
       found = patterns_more all i one c.loop-one.found.items c.push.new.self.items c.loop-one-test.true before.found
           (c.in_ok-push-in-Ok.ensures.items ∙ ap (λ (p : Pattern). c.loop-one.found.items ++ p ∷ []) (c.in-Ok.ensures.pattern ∙ ap pattern_of c.one-item.is));
+      agree = subst (All (λ (w : Written). HasNone IsMixed (points w.items))) (sym more) (All-push (λ (w : Written). HasNone IsMixed (points w.items)) (take i all) one before.agree c.in-Ok.ensures.agrees);
       stand = subst (HasNone (CantStand texts)) (sym more) (none_more (CantStand texts) (take i all) one before.stand (can_stand texts (take i all) one free c.in-Ok.ensures.agrees));
     }

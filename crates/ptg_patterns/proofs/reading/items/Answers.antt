@@ -1,7 +1,5 @@
-use Rattle.std.proofs.Common.{◌≡◌, ◌∷◌, [], ◌++◌, List, Some, None, Option, ap, sym, subst, ◌∙◌, arith, Bool}
+use Rattle.std.proofs.Common.{List, Some, Option, ap, sym, subst, ◌∙◌, arith}
 use Rattle.ptg_patterns.specs.declared.written.Item.{Item}
-use Rattle.ptg_patterns.specs.declared.marks.Mark.{Mark}
-use Rattle.ptg_patterns.specs.Fronts.{item_front}
 use Rattle.ptg_patterns.proofs.FrontsLemmas.{AreItems, brace_found, item_found, all_found}
 use Rattle.ptg_patterns.proofs.reading.items.Goals as goal
 

@@ -1,8 +1,7 @@
-use Rattle.std.proofs.Common.{◌≡◌, ◌∙◌, ◌⊎◌, inl, inr, List, Ok, Err, length, sym, subst}
+use Rattle.std.proofs.Common.{inl, inr, List, Ok, Err, length, sym, subst}
 use Rattle.lido_base.specs.Phases.{IsThe}
 use Rattle.lido_base.specs.declared.pattern.Pattern.{Pattern}
 use Rattle.lido_lexer.specs.declared.token.Token.{Token}
-use Rattle.ptg_patterns.specs.declared.fault.PtgFault.{PtgFault}
 use Rattle.ptg_patterns.specs.Texts.{AreTokens, Reads, PatternsOf}
 use Rattle.ptg_patterns.proofs.OneLemmas.{is_the}
 use Rattle.ptg_patterns.proofs.text.read_patterns.Goals as goal

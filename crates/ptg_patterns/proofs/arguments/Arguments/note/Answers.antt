@@ -1,4 +1,4 @@
-use Rattle.std.proofs.Common.{◌∙◌, ap, not, refl}
+use Rattle.std.proofs.Common.{ap, not, refl}
 use Rattle.ptg_patterns.proofs.ArgumentsLemmas.{keeps_more, flag_on, flag_kept, form_is}
 use Rattle.ptg_patterns.proofs.arguments.Arguments.note.Goals as goal
 

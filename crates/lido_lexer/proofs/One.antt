@@ -1,6 +1,6 @@
 -- A text has one list of tokens at most, or one place where it is stuck, and never both.
 use Rattle.std.proofs.Common.{◌≡◌, ℕ, List, ◌∷◌, length, Option, Some, None, Result, Ok, Err, refl, ap, sym, ◌∙◌, subst}
-use Rattle.lido_base.specs.Phases.{IsThe, Gives}
+use Rattle.lido_base.specs.Phases.{IsThe}
 use Rattle.lido_lexer.specs.Lexing.{Placed, place, placed, Lexes, ended, after_gap, with_token, IsStuck, here, past_gap, past_token, Lexing, IsCutInto, up_to_end, up_to, gap_first, token_first}
 use Rattle.lido_lexer.specs.declared.token.LexFault.{LexFault}
 use Rattle.lido_lexer.specs.declared.token.LexFault.TheVariants as fault

@@ -15,7 +15,7 @@ use Rattle.ptg_patterns.specs.Meaning.{points, arguments, first_type}
 abbrev pub has_number : Point → Bool
 has_number point = elim point.number [ None ↦ false | Some n ↦ true ]
 
--- The point has a number.
+-- It has none.
 abbrev pub has_no_number : Point → Bool
 has_no_number point = not (has_number point)
 

@@ -1,4 +1,4 @@
-use Rattle.std.proofs.Common.{inr, ap, Some}
+use Rattle.std.proofs.Common.{inr}
 use Rattle.lido_lexer.proofs.One.{lexed_is, stuck_is, cut_lexes, cut_stuck}
 use Rattle.lido_lexer.proofs.lexer.lex.Goals as goal
 

@@ -1,7 +1,7 @@
 -- A text has one list of tokens at most, or one place where it is stuck, and never both.
-use Rattle.std.proofs.Common.{◌≡◌, ℕ, List, ◌∷◌, length, Result, Ok, Err, refl, ap, sym, ◌∙◌, subst}
+use Rattle.std.proofs.Common.{◌≡◌, ℕ, List, ◌∷◌, length, Option, Some, None, Result, Ok, Err, refl, ap, sym, ◌∙◌, subst}
 use Rattle.lido_base.specs.Phases.{IsThe}
-use Rattle.lido_lexer.specs.Lexing.{Placed, placed, Lexes, ended, after_gap, with_token, IsStuck, here, past_gap, past_token, Lexing}
+use Rattle.lido_lexer.specs.Lexing.{Placed, place, placed, Lexes, ended, after_gap, with_token, IsStuck, here, past_gap, past_token, Lexing, IsCutInto, up_to_end, up_to, gap_first, token_first}
 use Rattle.lido_lexer.specs.declared.token.LexFault.{LexFault}
 use Rattle.lido_lexer.specs.declared.token.LexFault.TheVariants as fault
 use Rattle.lido_lexer.proofs.GapsLemmas.{no_bytes_no_gap}
@@ -62,3 +62,40 @@ lexed_is text tokens it = record { is = it; only = λ s other. one_answer text (
 pub stuck_is : (text : List ℕ) (at : ℕ) → IsStuck (length text) text at → IsThe (Lexing text) (Err (fault.Lexical at))
 unfolding Lexing
 stuck_is text at it = record { is = it; only = λ s other. one_answer text (Err (fault.Lexical at)) s it other }
+
+-- ---- the tokens in front
+
+pub cut_lexes : {size : ℕ} {bytes : List ℕ} {tokens : List Placed} {stuck : Option ℕ} → IsCutInto size bytes tokens stuck → stuck ≡ None → Lexes size bytes tokens
+cut_lexes up_to_end e = ended
+cut_lexes (up_to none) e = cc
+cut_lexes (gap_first gap it) e = after_gap gap (cut_lexes it e)
+cut_lexes (token_first front it) e = with_token front (cut_lexes it e)
+
+pub cut_stuck : {size : ℕ} {bytes : List ℕ} {tokens : List Placed} {stuck : Option ℕ} (at : ℕ) → IsCutInto size bytes tokens stuck → stuck ≡ Some at → IsStuck size bytes at
+cut_stuck at up_to_end e = cc
+cut_stuck {size} at (up_to {bytes} none) e = let same : at ≡ place size bytes = cc in here same none
+cut_stuck at (gap_first gap it) e = past_gap gap (cut_stuck at it e)
+cut_stuck at (token_first {shown = shown} front it) e = past_token shown front (cut_stuck at it e)
+
+-- a text is cut in one way
+pub one_cut : {size : ℕ} {bytes : List ℕ} {tokens others : List Placed} {stuck other : Option ℕ} → IsCutInto size bytes tokens stuck → IsCutInto size bytes others other
+    → (tokens ≡ others) × (stuck ≡ other)
+one_cut up_to_end up_to_end = (refl, refl)
+one_cut up_to_end (up_to none) = absurd (none.more refl)
+one_cut up_to_end (gap_first g b) = absurd (no_bytes_no_gap refl g)
+one_cut up_to_end (token_first {rest = rest} {shown = shown} f b) = absurd (no_bytes_no_front rest shown f)
+one_cut (up_to none) up_to_end = absurd (none.more refl)
+one_cut (up_to none) (up_to none') = (refl, refl)
+one_cut (up_to none) (gap_first {rest = rest} g b) = absurd (none.no_gap rest g)
+one_cut (up_to none) (token_first {rest = rest} {shown = shown} f b) = absurd (none.no_token shown rest f)
+one_cut (gap_first g a) up_to_end = absurd (no_bytes_no_gap refl g)
+one_cut (gap_first {rest = rest} g a) (up_to none) = absurd (none.no_gap rest g)
+one_cut {size} {others = others} {other = other} (gap_first g a) (gap_first h b) = one_cut a (subst (λ (l : List ℕ). IsCutInto size l others other) (one_gap h g) b)
+one_cut (gap_first {bytes} {rest} g a) (token_first {rest = rest'} {shown = shown} f b) = absurd (gap_no_front shown bytes rest rest' g f)
+one_cut (token_first {rest = rest} {shown = shown} f a) up_to_end = absurd (no_bytes_no_front rest shown f)
+one_cut (token_first {rest = rest} {shown = shown} f a) (up_to none) = absurd (none.no_token shown rest f)
+one_cut (token_first {bytes} {rest} {shown} f a) (gap_first {rest = rest'} g b) = absurd (gap_no_front shown bytes rest' rest g f)
+one_cut {size} {other = other} (token_first {bytes} {rest} {shown} f a) (token_first {rest = rest'} {shown = shown'} {tokens = others} g b) =
+    let same = one_front shown shown' bytes rest rest' f g in
+    let later = one_cut a (subst (λ (l : List ℕ). IsCutInto size l others other) (sym same.1) b) in
+    ((λ j. placed size bytes (same.0 j) (same.1 j) ∷ later.0 j), later.1)

@@ -1,17 +1,15 @@
 -- A text that is read up to a place.
-use Rattle.std.proofs.Common.{◌≡◌, ◌≢◌, ℕ, zero, suc, ◌<◌, ◌≤◌, ◌⊎◌, inl, inr, List, [], ◌∷◌, ◌++◌, length, map, Option, slice_get, unwrap_or, All, Err, refl, ap, sym, ◌∙◌, subst, arith, append_assoc, append-nil}
+use Rattle.std.proofs.Common.{◌≡◌, ◌≢◌, ℕ, zero, suc, ◌<◌, ◌≤◌, List, [], ◌∷◌, ◌++◌, length, map, Option, Some, None, slice_get, unwrap_or, All, refl, ap, sym, ◌∙◌, subst, arith, append_assoc, append-nil}
 use Rattle.std.proofs.lemmas.List.{map-append, length-append}
 use Rattle.std.proofs.lemmas.List.Elements.{All-head, All-tail, All-push}
-use Rattle.lido_base.specs.Phases.{IsThe}
 use Rattle.lido_lexer.specs.Gaps.{IsGap, IsPast, at_once, one_more}
 use Rattle.lido_lexer.specs.Tokens.{IsFront, Word, Str, Literal, shown_kind}
-use Rattle.lido_lexer.specs.Lexing.{Placed, Lexes, ended, after_gap, with_token, IsStuck, here, past_gap, past_token, shown_in, placed, Gains, HasText, IsInOrder, IsRefusal, Lexing}
+use Rattle.lido_lexer.specs.Lexing.{Placed, IsCutInto, up_to_end, up_to, gap_first, token_first, shown_in, placed, Gains, HasText, IsInOrder, IsRefusal}
 use Rattle.lido_lexer.specs.declared.token.Token.{Token}
 use Rattle.lido_lexer.specs.declared.token.TokenKind.{TokenKind}
 use Rattle.lido_lexer.specs.declared.token.TokenKind.TheVariants as kind
 use Rattle.lido_lexer.specs.declared.token.LexFault.{LexFault}
 use Rattle.lido_lexer.specs.declared.token.LexFault.TheVariants as fault
-use Rattle.lido_lexer.proofs.One.{stuck_is}
 
 -- ---- texts that are added
 
@@ -75,47 +73,52 @@ order_within from middle to (t ∷ tokens) before high = (before.0, before.1, or
 
 -- ---- what is left decides of the whole
 
-past_lexes : {size : ℕ} {bytes rest : List ℕ} {more : List Placed} → IsPast bytes rest → Lexes size rest more → Lexes size bytes more
-past_lexes at_once it = it
-past_lexes (one_more past gap) it = past_lexes past (after_gap gap it)
-
-past_stuck : {size at : ℕ} {bytes rest : List ℕ} → IsPast bytes rest → IsStuck size rest at → IsStuck size bytes at
-past_stuck at_once it = it
-past_stuck (one_more past gap) it = past_stuck past (past_gap gap it)
+past_cut : {size : ℕ} {bytes rest : List ℕ} {more : List Placed} {stuck : Option ℕ} → IsPast bytes rest → IsCutInto size rest more stuck → IsCutInto size bytes more stuck
+past_cut at_once it = it
+past_cut (one_more past gap) it = past_cut past (gap_first gap it)
 
 pub record IsReading (text : List ℕ) (texts : List (List ℕ)) (tokens : List Token) (left : List ℕ) : Type 0 where
-  pub on : (more : List Placed) → Lexes (length text) left more → Lexes (length text) text (map (shown_in texts) tokens ++ more)
-  pub stuck : (at : ℕ) → IsStuck (length text) left at → IsStuck (length text) text at
+  pub on : (more : List Placed) (stuck : Option ℕ) → IsCutInto (length text) left more stuck → IsCutInto (length text) text (map (shown_in texts) tokens ++ more) stuck
   pub no_gap : (rest : List ℕ) → IsGap left rest → ⊥
 
 pub reading_start : (text : List ℕ) (texts : List (List ℕ)) (left : List ℕ) → IsPast text left → ((rest : List ℕ) → IsGap left rest → ⊥) → IsReading text texts [] left
-reading_start text texts left past no_gap = record { on = λ more it. past_lexes past it; stuck = λ at it. past_stuck past it; no_gap = no_gap }
+reading_start text texts left past no_gap = record { on = λ more stuck it. past_cut past it; no_gap = no_gap }
 
 pub reading_more : (text : List ℕ) (old new : List (List ℕ)) (tokens : List Token) (token : Token) (left rest next : List ℕ)
     → IsReading text old tokens left → Gains old new → All (λ (t : Token). HasText (length old) t.what) tokens
     → IsFront left (shown_kind new token.what) rest → shown_in new token ≡ placed (length text) left (shown_kind new token.what) rest
     → IsPast rest next → ((other : List ℕ) → IsGap next other → ⊥) → IsReading text new (tokens ++ token ∷ []) next
 reading_more text old new tokens token left rest next before gains ids front shown past no_gap = record {
-  on = λ more it.
-      let one : Lexes (length text) left (shown_in new token ∷ more) = subst (λ (p : Placed). Lexes (length text) left (p ∷ more)) (sym shown) (with_token front (past_lexes past it)) in
-      let all = before.on (shown_in new token ∷ more) one in
+  on = λ more stuck it.
+      let one : IsCutInto (length text) left (shown_in new token ∷ more) stuck =
+      subst (λ (p : Placed). IsCutInto (length text) left (p ∷ more) stuck) (sym shown) (token_first front (past_cut past it)) in
+      let all = before.on (shown_in new token ∷ more) stuck one in
       let same : map (shown_in new) (tokens ++ token ∷ []) ++ more ≡ map (shown_in old) tokens ++ (shown_in new token ∷ more) =
       ap (λ (l : List Placed). l ++ more) (map-append (shown_in new) tokens (token ∷ []))
       ∙ append_assoc (map (shown_in new) tokens) (shown_in new token ∷ []) more
       ∙ ap (λ (l : List Placed). l ++ (shown_in new token ∷ more)) (shown_kept old new tokens gains ids) in
-      subst (λ (l : List Placed). Lexes (length text) text l) (sym same) all;
-  stuck = λ at it. before.stuck at (past_token (shown_kind new token.what) front (past_stuck past it));
+      subst (λ (l : List Placed). IsCutInto (length text) text l stuck) (sym same) all;
   no_gap = no_gap;
 }
 
 pub reading_end : (text : List ℕ) (texts : List (List ℕ)) (tokens : List Token) (left : List ℕ) → IsReading text texts tokens left → left ≡ []
-    → Lexes (length text) text (map (shown_in texts) tokens)
+    → IsCutInto (length text) text (map (shown_in texts) tokens) None
 reading_end text texts tokens left before none =
-    subst (λ (l : List Placed). Lexes (length text) text l) (append-nil (map (shown_in texts) tokens))
-    (before.on [] (subst (λ (l : List ℕ). Lexes (length text) l []) (sym none) ended))
+    subst (λ (l : List Placed). IsCutInto (length text) text l None) (append-nil (map (shown_in texts) tokens))
+    (before.on [] None (subst (λ (l : List ℕ). IsCutInto (length text) l [] None) (sym none) up_to_end))
 
-pub refused : (text : List ℕ) (texts : List (List ℕ)) (tokens : List Token) (left : List ℕ) (e : LexFault) → IsReading text texts tokens left → left ≢ []
-    → IsRefusal (length text) left e → (e ≡ fault.Memory) ⊎ IsThe (Lexing text) (Err e)
-refused text texts tokens left (fault.Lexical at) before some it =
-    inr (stuck_is text at (before.stuck at (here it.0 (record { more = some; no_gap = before.no_gap; no_token = it.1 }))))
-refused text texts tokens left fault.Memory before some it = inl refl
+pub reading_stuck : (text : List ℕ) (texts : List (List ℕ)) (tokens : List Token) (left : List ℕ) (e : LexFault) (at : ℕ) → IsReading text texts tokens left → left ≢ []
+    → IsRefusal (length text) left e → e ≡ fault.Lexical at → IsCutInto (length text) text (map (shown_in texts) tokens) (Some at)
+reading_stuck text texts tokens left e at before some refusal is =
+    let it : IsRefusal (length text) left (fault.Lexical at) = subst (λ (f : LexFault). IsRefusal (length text) left f) is refusal in
+    subst (λ (l : List Placed). IsCutInto (length text) text l (Some at)) (append-nil (map (shown_in texts) tokens))
+    (before.on [] (Some at) (subst (λ (n : ℕ). IsCutInto (length text) left [] (Some n)) (sym it.0)
+    (up_to (record { more = some; no_gap = before.no_gap; no_token = it.1 }))))
+
+-- more texts change nothing of it
+pub reading_kept : (text : List ℕ) (old new : List (List ℕ)) (tokens : List Token) (left : List ℕ) → Gains old new → All (λ (t : Token). HasText (length old) t.what) tokens
+    → IsReading text old tokens left → IsReading text new tokens left
+reading_kept text old new tokens left gains ids before = record {
+  on = λ more stuck it. subst (λ (l : List Placed). IsCutInto (length text) text (l ++ more) stuck) (sym (shown_kept old new tokens gains ids)) (before.on more stuck it);
+  no_gap = before.no_gap;
+}

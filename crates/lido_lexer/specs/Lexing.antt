@@ -1,5 +1,5 @@
 -- A whole text and its tokens.
-use Rattle.std.specs.Prelude.{◌≡◌, ◌≢◌, ◌-◌, ◌<◌, ◌≤◌, ⊤, ℕ, List, [], ◌∷◌, ◌++◌, length, Result, Ok, Err}
+use Rattle.std.specs.Prelude.{◌≡◌, ◌≢◌, ◌-◌, ◌<◌, ◌≤◌, ⊤, ℕ, List, [], ◌∷◌, ◌++◌, length, Option, Some, None, Result, Ok, Err}
 use Rattle.lido_lexer.specs.declared.token.Token.{Token}
 use Rattle.lido_lexer.specs.declared.token.LexFault.{LexFault}
 use Rattle.lido_lexer.specs.declared.token.LexFault.TheVariants as fault
@@ -50,6 +50,15 @@ unfoldable pub Lexing : List ℕ → Result (List Placed) LexFault → Type 0
 Lexing bytes (Ok tokens) = Lexes (length bytes) bytes tokens
 Lexing bytes (Err (fault.Lexical at)) = IsStuck (length bytes) bytes at
 Lexing bytes (Err fault.Memory) = ⊥
+
+-- These tokens, with pieces between them, are in front of what is left of a text of this size: up to its end, or up to the place
+-- where something stands that is neither.
+pub data IsCutInto (size : ℕ) : List ℕ → List Placed → Option ℕ → Type 0 where
+  up_to_end : IsCutInto size [] [] None
+  up_to : {bytes : List ℕ} → HasNoFront bytes → IsCutInto size bytes [] (Some (place size bytes))
+  gap_first : {bytes rest : List ℕ} {tokens : List Placed} {stuck : Option ℕ} → IsGap bytes rest → IsCutInto size rest tokens stuck → IsCutInto size bytes tokens stuck
+  token_first : {bytes rest : List ℕ} {shown : Shown} {tokens : List Placed} {stuck : Option ℕ} → IsFront bytes shown rest
+      → IsCutInto size rest tokens stuck → IsCutInto size bytes (placed size bytes shown rest ∷ tokens) stuck
 
 -- ---- what one call adds
 

@@ -1,5 +1,5 @@
 //! Laws of the grammar of tokens. Each function does nothing; what is proved is its contract.
-ghost use Rattle.std.specs.Prelude.{◌≡◌, ◌≤◌, ◌++◌, ◌∷◌, List, ℕ, Some, length, Result};
+ghost use Rattle.std.specs.Prelude.{◌≡◌, ◌≤◌, ◌++◌, ◌∷◌, List, ℕ, Some, length, Option, Result};
 ghost use Rattle.lido_lexer.specs.declared.keyword.Keyword.{Keyword};
 ghost use Rattle.lido_lexer.specs.declared.sign.Sign.{Sign};
 ghost use Rattle.lido_lexer.specs.declared.token.LexFault.{LexFault};
@@ -7,12 +7,18 @@ ghost use Rattle.lido_lexer.specs.Gaps.{IsGap};
 ghost use Rattle.lido_lexer.specs.Keywords.{keyword_spelling, keyword_of};
 ghost use Rattle.lido_lexer.specs.Signs.{sign_spelling, sign_of};
 ghost use Rattle.lido_lexer.specs.Tokens.{Shown, IsFront};
-ghost use Rattle.lido_lexer.specs.Lexing.{Placed, Lexes, IsStuck, Lexing};
+ghost use Rattle.lido_lexer.specs.Lexing.{Placed, Lexes, IsCutInto, IsStuck, Lexing};
 
 /// A text has one list of tokens at most, or is stuck at one place at most, and never both.
 pub fn one_answer()
     ensures { (text : List ℕ) (first second : Result (List Placed) LexFault)
         → Lexing text first → Lexing text second → first ≡ second }
+{}
+
+/// The tokens in front of a text are settled, and the place where no more can be formed, if there is one.
+pub fn one_cut()
+    ensures { (text : List ℕ) (first second : List Placed) (stuck other : Option ℕ)
+        → IsCutInto (length text) text first stuck → IsCutInto (length text) text second other → (first ≡ second) × (stuck ≡ other) }
 {}
 
 /// What is in front is settled: one token at most, one piece between tokens at most, and never both.

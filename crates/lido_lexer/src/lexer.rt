@@ -1,14 +1,14 @@
 //! A whole text is cut into its tokens.
-ghost use Rattle.std.specs.Prelude.{◌≡◌, ◌+◌, ◌<◌, ◌≤◌, ◌^◌, List, ℕ, Some, length, map, slice_get, IfOk, IfErr, All};
+ghost use Rattle.std.specs.Prelude.{◌≡◌, ◌+◌, ◌<◌, ◌≤◌, ◌^◌, List, ℕ, Some, length, map, slice_get, IfOk, IfErr, IfSome, All};
 ghost use Rattle.lido_base.specs.Phases.{Gives};
 ghost use Rattle.lido_lexer.specs.Lexemes.{name_shown, said};
 ghost use Rattle.lido_lexer.specs.Tokens.{IsFront, shown_kind};
-ghost use Rattle.lido_lexer.specs.Lexing.{Gains, HasText, IsInOrder, IsRefusal, Lexing, place, placed, shown_in};
+ghost use Rattle.lido_lexer.specs.Lexing.{Gains, HasText, IsCutInto, IsInOrder, IsRefusal, Lexing, place, placed, shown_in};
 
 use crate::gaps::skip_gaps;
 use crate::keyword::keyword_of;
 use crate::lexeme::{Lexeme, lexeme_front};
-use crate::{LexFault, Token, TokenKind};
+use crate::{LexFault, Lexed, Token, TokenKind};
 use lido_base::{StrId, Strings};
 use std::alloc::Global;
 
@@ -110,6 +110,45 @@ fn next_token<'a>(
     }
 }
 
+/// The tokens in front of a text in order, as far as they go, with their texts put into `strings`.
+///
+/// They go up to the text's end, or up to the first byte of the first token that can't be formed. An `Err` is want of memory.
+/// Texts that were in `strings` keep their ids whatever the answer; a text gains at most as many texts as it has bytes.
+pub fn lex_as_far(alloc: Global, text: &[u8], strings: &mut Strings) -> Result<Lexed, LexFault>
+    requires { length text.now ≤ 8388608 }
+    // Read with the texts of `strings`, the tokens are those that the text spells.
+    ensures cut { IfOk result (λ lexed. IsCutInto (length text.now) text.now (map (shown_in strings.new) lexed.tokens.items) lexed.stuck) }
+    ensures memory { IfErr result (λ e. e ≡ LexFault.Memory) }
+    ensures ids { IfOk result (λ lexed. All (λ token. HasText (length strings.new) token.what) lexed.tokens.items) }
+    ensures in_order { IfOk result (λ lexed. IsInOrder 0 (length text.now) lexed.tokens.items) }
+    ensures count { IfOk result (λ lexed. length lexed.tokens.items ≤ length text.now) }
+    ensures within { IfOk result (λ lexed. IfSome lexed.stuck (λ at. at ≤ length text.now)) }
+    ensures kept { Gains strings.old strings.new }
+    ensures few { length strings.new ≤ length strings.old + length text.now }
+{
+    let mut tokens = Vec::new(alloc);
+    let mut left = skip_gaps(text);
+    while !left.is_empty() {
+        match next_token(alloc, text, left, strings) {
+            Ok((token, rest)) => {
+                tokens.push(token)?;
+                left = skip_gaps(rest);
+            }
+            Err(LexFault::Lexical { at }) => {
+                return Ok(Lexed {
+                    tokens,
+                    stuck: Some(at),
+                });
+            }
+            Err(LexFault::Memory) => return Err(LexFault::Memory),
+        }
+    }
+    Ok(Lexed {
+        tokens,
+        stuck: None,
+    })
+}
+
 /// The tokens of a text in order, with their texts put into `strings`.
 ///
 /// `Lexical` comes exactly where the text is not made of tokens with white space and comments between them, and names the first
@@ -125,16 +164,12 @@ pub fn lex(alloc: Global, text: &[u8], strings: &mut Strings) -> Result<Vec<Toke
     ensures kept { Gains strings.old strings.new }
     ensures few { length strings.new ≤ length strings.old + length text.now }
 {
-    let mut tokens = Vec::new(alloc);
-    let mut left = skip_gaps(text);
-    while !left.is_empty() {
-        match next_token(alloc, text, left, strings) {
-            Ok((token, rest)) => {
-                tokens.push(token)?;
-                left = skip_gaps(rest);
-            }
-            Err(e) => return Err(e),
-        }
+    let Lexed { tokens, stuck } = match lex_as_far(alloc, text, strings) {
+        Ok(lexed) => lexed,
+        Err(e) => return Err(e),
+    };
+    if let Some(at) = stuck {
+        return Err(LexFault::Lexical { at });
     }
     Ok(tokens)
 }

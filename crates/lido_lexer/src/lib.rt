@@ -17,7 +17,7 @@ mod token;
 mod words;
 
 pub use keyword::Keyword;
-pub use lexer::lex;
+pub use lexer::{lex, lex_as_far};
 pub use look::{is_key, is_sign, next};
 pub use sign::Sign;
-pub use token::{LexFault, Token, TokenKind};
+pub use token::{LexFault, Lexed, Token, TokenKind};

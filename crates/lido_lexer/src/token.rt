@@ -31,6 +31,14 @@ pub enum TokenKind {
     Sign(Sign),
 }
 
+/// The tokens in front of a text.
+#[derive(Debug, Drop)]
+pub struct Lexed {
+    pub tokens: Vec<Token>,
+    /// The first byte, counted from 0, of the first token that can't be formed; none where the tokens go up to the text's end.
+    pub stuck: Option<u32>,
+}
+
 /// Why `lex` gave no tokens.
 #[derive(Clone, Copy, Debug, PartialEq, Eq, Error)]
 pub enum LexFault {

@@ -1,49 +1,9 @@
-use Rattle.std.proofs.Common.{List, [], ◌∷◌, length, All, ap, sym, subst, arith}
-use Rattle.std.proofs.lemmas.List.{length-append}
-use Rattle.lido_lexer.specs.Lexing.{HasText, IsInOrder, Placed, place}
-use Rattle.lido_lexer.specs.declared.token.Token.{Token}
-use Rattle.lido_lexer.proofs.Reading.{IsReading, reading_start, reading_more, reading_end, refused, gains_none, gains_more, gains_length, ids_more, order_more}
-use Rattle.lido_lexer.proofs.One.{lexed_is}
-use Rattle.lido_lexer.proofs.BytesLemmas.{empty_of, nonempty_of}
+use Rattle.std.proofs.Common.{inr}
+use Rattle.lido_lexer.proofs.One.{lexed_is, stuck_is, cut_lexes, cut_stuck}
 use Rattle.lido_lexer.proofs.lexer.lex.Goals as goal
 
-pub loop-left-init : goal.loop-left-init
-loop-left-init c = record {
-  reading = subst (λ (l : List Token). IsReading c.args.text.now c.args.strings.now l c.skip_gaps-left.result.now) (sym c.new-tokens.ensures.items)
-      (reading_start c.args.text.now c.args.strings.now c.skip_gaps-left.result.now c.skip_gaps-left.ensures.past c.skip_gaps-left.ensures.none);
-  ids = λ k d less. absurd (omega (arith, less, ap length c.new-tokens.ensures.items));
-  in_order = subst (λ (l : List Token). IsInOrder 0 (place (length c.args.text.now) c.skip_gaps-left.result.now) l) (sym c.new-tokens.ensures.items) (omega arith);
-  count = omega (arith, ap length c.new-tokens.ensures.items, c.skip_gaps-left.ensures.bound);
-  kept = gains_none c.args.strings.now;
-  few = omega (arith, c.skip_gaps-left.ensures.bound);
-}
-
-pub loop-left-preserved : goal.loop-left-preserved
-loop-left-preserved c =
-    let before = c.loop-left.invariant in
-    let text = c.args.text.now in
-    let from = ap (λ (p : Placed). p.from) c.in-Ok.ensures.shown in
-    let to = ap (λ (p : Placed). p.to) c.in-Ok.ensures.shown in
-    let gains = c.next_token.ensures.kept in
-    let items = c.in_ok-push-in-Ok.ensures.items in
-    record {
-      reading = subst (λ (l : List Token). IsReading text c.next_token.new.strings l c.skip_gaps-left-in-Ok.result.now) (sym items)
-          (reading_more text c.loop-left.strings c.next_token.new.strings c.loop-left.tokens.items c.in-Ok.token c.loop-left.left.now c.in-Ok.rest.now c.skip_gaps-left-in-Ok.result.now
-          before.reading gains before.ids c.in-Ok.ensures.front c.in-Ok.ensures.shown c.skip_gaps-left-in-Ok.ensures.past c.skip_gaps-left-in-Ok.ensures.none);
-      ids = subst (λ (l : List Token). All (λ (t : Token). HasText (length c.next_token.new.strings) t.what) l) (sym items)
-          (ids_more (length c.loop-left.strings) (length c.next_token.new.strings) c.loop-left.tokens.items c.in-Ok.token (gains_length gains) before.ids c.in-Ok.ensures.text);
-      in_order = subst (λ (l : List Token). IsInOrder 0 (place (length text) c.skip_gaps-left-in-Ok.result.now) l) (sym items)
-          (order_more 0 (place (length text) c.loop-left.left.now) (place (length text) c.skip_gaps-left-in-Ok.result.now) c.loop-left.tokens.items c.in-Ok.token before.in_order
-          (omega (arith, from)) (omega (arith, from, to, c.in-Ok.ensures.shorter, before.count)) (omega (arith, to, c.skip_gaps-left-in-Ok.ensures.bound)));
-      count = omega (arith, before.count, ap length items, length-append c.loop-left.tokens.items (c.in-Ok.token ∷ []), c.in-Ok.ensures.shorter, c.skip_gaps-left-in-Ok.ensures.bound);
-      kept = gains_more before.kept gains;
-      few = omega (arith, before.few, c.next_token.ensures.few, c.in-Ok.ensures.shorter, c.skip_gaps-left-in-Ok.ensures.bound);
-    }
-
-pub returns-in-Err-clause-gives : goal.returns-in-Err-clause-gives
-returns-in-Err-clause-gives c = refused c.args.text.now c.loop-left.strings c.loop-left.tokens.items c.loop-left.left.now c.in-Err.e c.loop-left.invariant.reading
-    (nonempty_of c.is_empty.result c.loop-left.left.now c.is_empty.ensures c.loop-left-test.true) c.in-Err.ensures.refusal
+pub returns-in-Some-clause-gives : goal.returns-in-Some-clause-gives
+returns-in-Some-clause-gives c = inr (stuck_is c.args.text.now c.in-Some.at (cut_stuck c.in-Some.at c.in-Ok.ensures.cut c.in-Some.is))
 
 pub returns-clause-gives : goal.returns-clause-gives
-returns-clause-gives c = lexed_is c.args.text.now _ (reading_end c.args.text.now c.loop-left.strings c.loop-left.tokens.items c.loop-left.left.now c.loop-left.invariant.reading
-    (empty_of c.is_empty.result c.loop-left.left.now c.is_empty.ensures c.loop-left-test.false))
+returns-clause-gives c = lexed_is c.args.text.now _ (cut_lexes c.in-Ok.ensures.cut c.in_default.is)

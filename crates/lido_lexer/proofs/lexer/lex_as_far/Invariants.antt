@@ -2,7 +2,7 @@ use Rattle.std.proofs.Common.{◌+◌, ◌≤◌, length, All}
 use Rattle.lido_lexer.specs.Lexing.{Gains, HasText, IsInOrder, place}
 use Rattle.lido_lexer.specs.declared.token.Token.{Token}
 use Rattle.lido_lexer.proofs.Reading.{IsReading}
-use Rattle.lido_lexer.proofs.lexer.lex.Given as goal
+use Rattle.lido_lexer.proofs.lexer.lex_as_far.Given as goal
 
 abbrev pub invariant-loop-left : goal.invariant-loop-left
 invariant-loop-left l = record {

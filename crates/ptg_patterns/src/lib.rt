@@ -1,0 +1,18 @@
+//! Patterns of PTG: how a text is read into them, and what their functions take.
+#![tactic(auto)]
+
+mod arguments;
+mod fault;
+mod function;
+mod marks;
+mod patterns;
+mod reading;
+mod syntax;
+#[cfg(test)]
+mod tests;
+mod text;
+mod written;
+
+pub use fault::PtgFault;
+pub use function::{arg_type, arity};
+pub use text::read_patterns;

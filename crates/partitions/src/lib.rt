@@ -1,0 +1,5 @@
+//! The visits of each symbol, or a cycle of a rule.
+#![tactic(auto)]
+
+mod bits;
+mod peeling;

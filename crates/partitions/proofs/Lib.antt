@@ -1,2 +1,4 @@
 pub mod BitsLemmas
 pub mod PeelingLemmas
+pub mod ClassesLemmas
+pub mod SymbolsLemmas

@@ -130,6 +130,9 @@ module _ (symbols : List FlatSymbol) (rules : List FlatRule) (x : SymId) where
       go None e h = absurd (cc)
       go (Some attr) e h = below-length (attrs_of symbols x) a.0 attr e
 
+  pub attribute-some : (a : AttrId) → a.0 < length (attrs_of symbols x) → IsSome (attribute_at symbols x a)
+  attribute-some a h = let got = get-below (attrs_of symbols x) a.0 h in subst (λ (o : Option FlatAttr). IsSome o) (sym (attribute-get symbols x a ∙ got.1)) refl
+
   -- a closed set stays closed where more is peeled
   pub closed-more : (P Q : AttrId → Type 0) (kind : Kind) (set : List AttrId) → ((a : AttrId) → P a → Q a) → IsClosedSet symbols rules x P kind set → IsClosedSet symbols rules x Q kind set
   closed-more P Q kind set more closed a m = ((closed a m).0, λ b d. elim ((closed a m).1 b d) [ inl p ↦ inl (more b p) | inr q ↦ inr q ])

@@ -41,3 +41,11 @@ module _ (symbols : List FlatSymbol) (rules : List FlatRule) (x : SymId) where
   pub record AreLaterRows (rows : List ℕ) : Type 0 where
     pub each : length rows ≡ length (attrs_of symbols x)
     pub bits : (a b : AttrId) (row : ℕ) → slice_get rows a.0 ≡ Some row → IsBitSet row b.0 ↔ IsEarlier symbols rules x a b
+
+-- b is in one of these three sets, and k is not
+abbrev pub IsPast : Levels → ℕ → ℕ → Type 0
+IsPast levels k b = (IsBitSet levels.later b × ¬ IsBitSet levels.later k) ⊎ ((IsBitSet levels.synthesized b × ¬ IsBitSet levels.synthesized k) ⊎ (IsBitSet levels.both b × ¬ IsBitSet levels.both k))
+
+-- b is in a later class than k, by one of the sets
+abbrev pub IsPastAmong : List Levels → ℕ → ℕ → Type 0
+IsPastAmong all k b = (j : ℕ) × (levels : Levels) × (slice_get all j ≡ Some levels) × IsPast levels k b

@@ -2,4 +2,6 @@
 #![tactic(auto)]
 
 mod bits;
+mod classes;
 mod peeling;
+mod symbols;

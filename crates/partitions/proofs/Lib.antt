@@ -2,3 +2,8 @@ pub mod BitsLemmas
 pub mod PeelingLemmas
 pub mod ClassesLemmas
 pub mod SymbolsLemmas
+pub mod SearchLemmas
+pub mod CycleLemmas
+pub mod ReadsLemmas
+pub mod VerticesLemmas
+pub mod EdgesLemmas

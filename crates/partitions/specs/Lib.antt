@@ -1,2 +1,6 @@
 pub mod Peeling
 pub mod Symbols
+pub mod Graph
+pub mod Search
+pub mod Reads
+pub mod RuleGraph

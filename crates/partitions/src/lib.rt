@@ -3,5 +3,10 @@
 
 mod bits;
 mod classes;
+mod cycle;
+mod direct;
+mod edges;
 mod peeling;
+mod search;
 mod symbols;
+mod vertices;

@@ -7,3 +7,6 @@ pub mod CycleLemmas
 pub mod ReadsLemmas
 pub mod VerticesLemmas
 pub mod EdgesLemmas
+pub mod ExtendedLemmas
+pub mod StepsLemmas
+pub mod RankedLemmas

@@ -106,11 +106,11 @@ module _ (symbols : List FlatSymbol) where
       go None e = omega arith
       go (Some s) e = at symbols x.0 s e few
 
-even-kind : (j : ℕ) → kind_of_class (2 * j) ≡ Synthesized
+pub even-kind : (j : ℕ) → kind_of_class (2 * j) ≡ Synthesized
 even-kind zero = refl
 even-kind (suc j) = let e : 2 * suc j ≡ suc (suc (2 * j)) = omega arith in subst (λ k. kind_of_class k ≡ Synthesized) (sym e) (even-kind j)
 
-odd-kind : (j : ℕ) → kind_of_class (suc (2 * j)) ≡ Inherited
+pub odd-kind : (j : ℕ) → kind_of_class (suc (2 * j)) ≡ Inherited
 odd-kind zero = refl
 odd-kind (suc j) = let e : suc (2 * suc j) ≡ suc (suc (suc (2 * j))) = omega arith in subst (λ k. kind_of_class k ≡ Inherited) (sym e) (odd-kind j)
 

@@ -33,6 +33,7 @@ module _ (symbols : List FlatSymbol) (r : FlatRule) where
     to = λ v o at. absurd (none-some o at);
     from = λ o before some. elim before [ inl l ↦ absurd (omega arith) | inr e ↦ absurd (let l = e.1 in omega arith) ];
     ascending = λ v w o p le at next. absurd (none-some o at);
+    apart = λ v w o a b. absurd (none-some o a);
     bounded = λ i start at. absurd (none-some start at);
   }
 
@@ -46,6 +47,7 @@ module _ (symbols : List FlatSymbol) (r : FlatRule) where
     ];
     from = λ o is some. found o is some;
     ascending = λ v w o q le a b. order v w o q le (pushed-get occs p v o a) (pushed-get occs p w q b);
+    apart = λ v w o a b. once v w o (pushed-get occs p v o a) (pushed-get occs p w o b);
     bounded = λ i s at. let l = before.bounded i s at in let n = length-append occs (p ∷ []) in omega arith;
   })
     where
@@ -63,6 +65,16 @@ module _ (symbols : List FlatSymbol) (r : FlatRule) where
             (start, ap (λ i. slice_get starts i) e.0 ∙ started, ap (λ i. slice_get (occs ++ (p ∷ [])) i) same ∙ push-new occs p ∙ ap Some (same-occ p o (p_occ ∙ sym e.0) (omega arith)))
       ]
 
+      not_before : (o : Occ) → IsBefore k a o → p ≡ o → ⊥
+      not_before o (inl l) e = absurd (let f = ap (λ (q : Occ). q.occ) e in omega arith)
+      not_before o (inr l) e = absurd (let f = ap (λ (q : Occ). q.attr.0) e in let b = l.1 in omega arith)
+
+      once : (v w : ℕ) (o : Occ) → (slice_get occs v ≡ Some o) ⊎ ((v ≡ length occs) × (p ≡ o)) → (slice_get occs w ≡ Some o) ⊎ ((w ≡ length occs) × (p ≡ o)) → v ≡ w
+      once v w o (inl a) (inl b) = before.apart v w o a b
+      once v w o (inl a) (inr b) = absurd (not_before o (before.to v o a).0 b.1)
+      once v w o (inr a) (inl b) = absurd (not_before o (before.to w o b).0 a.1)
+      once v w o (inr a) (inr b) = a.0 ∙ sym b.0
+
       order : (v w : ℕ) (o q : Occ) → v ≤ w → (slice_get occs v ≡ Some o) ⊎ ((v ≡ length occs) × (p ≡ o)) → (slice_get occs w ≡ Some q) ⊎ ((w ≡ length occs) × (p ≡ q)) → IsAtMost o q
       order v w o q le (inl a) (inl b) = before.ascending v w o q le a b
       order v w o q le (inl a) (inr b) = subst (λ (z : Occ). IsAtMost o z) b.1 (elim (before.to v o a).0 [ inl l ↦ inl (omega arith) | inr e ↦ inr (e.0 ∙ sym p_occ, (let l = e.1 in omega arith)) ])
@@ -78,6 +90,7 @@ module _ (symbols : List FlatSymbol) (r : FlatRule) where
           before.from o (inr (same, (let b = occ-below rules o x (ap (symbol_at r) same ∙ at) some in omega arith))) some)
     ];
     ascending = before.ascending;
+    apart = before.apart;
     bounded = before.bounded;
   }
 
@@ -86,5 +99,6 @@ module _ (symbols : List FlatSymbol) (r : FlatRule) where
     to = before.to;
     from = λ o is some. let h = before.from o is some in (h.0, push-old starts n o.occ h.0 h.1, h.2);
     ascending = before.ascending;
+    apart = before.apart;
     bounded = λ i s at. elim (pushed-get starts n i s at) [ inl old ↦ before.bounded i s old | inr here ↦ subst (λ m. m ≤ length occs) here.1 small ];
   })

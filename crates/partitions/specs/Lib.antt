@@ -4,3 +4,4 @@ pub mod Graph
 pub mod Search
 pub mod Reads
 pub mod RuleGraph
+pub mod Parts

@@ -9,7 +9,8 @@ use Rattle.flat_grammar.specs.declared.flat.FlatComp.{FlatComp}
 use Rattle.flat_grammar.specs.Rules.{symbols_of, symbol_at, dependencies}
 use Rattle.flat_grammar.specs.WellFormed.{attribute_of}
 use Rattle.flat_grammar.specs.Dependencies.{DP}
-use Rattle.flat_grammar.specs.Cycles.{DS, IsAtMost}
+use Rattle.flat_grammar.specs.declared.plan.CycleStep.{CycleStep}
+use Rattle.flat_grammar.specs.Cycles.{DS, EDP, IsAtMost}
 use Rattle.partitions.specs.declared.direct.DirectEdge.{DirectEdge}
 use Rattle.partitions.specs.Graph.{IsEdge}
 use Rattle.partitions.specs.Symbols.{rows_at}
@@ -32,6 +33,7 @@ module _ (symbols : List FlatSymbol) (r : FlatRule) where
     pub to : (v : ℕ) (o : Occ) → slice_get occs v ≡ Some o → IsBefore k a o × IsSome (attribute_of symbols r o)
     pub from : (o : Occ) → IsBefore k a o → IsSome (attribute_of symbols r o) → (start : ℕ) × (slice_get starts o.occ ≡ Some start) × (slice_get occs (start + o.attr.0) ≡ Some o)
     pub ascending : (v w : ℕ) (o p : Occ) → v ≤ w → slice_get occs v ≡ Some o → slice_get occs w ≡ Some p → IsAtMost o p
+    pub apart : (v w : ℕ) (o : Occ) → slice_get occs v ≡ Some o → slice_get occs w ≡ Some o → v ≡ w
     pub bounded : (i start : ℕ) → slice_get starts i ≡ Some start → start ≤ length occs
 
   -- the vertices of the rule, in order, and for each occurrence the number of its first
@@ -65,6 +67,14 @@ IsComingAt r ids later starts o u = (x : SymId) × (symbol_at r o.occ ≡ Some x
 abbrev pub IsDirectAmong : List ℕ → List DirectEdge → ℕ → ℕ → Type 0
 IsDirectAmong starts edges u v = (j : ℕ) × (e : DirectEdge) × (slice_get edges j ≡ Some e) × IsNumberOf starts e.from u × IsNumberOf starts e.to v
 
+-- the place behind another in a circle of so many
+abbrev pub IsNextPlace : ℕ → ℕ → ℕ → Type 0
+IsNextPlace count j k = ((suc j < count) × (k ≡ suc j)) ⊎ ((suc j ≡ count) × (k ≡ 0))
+
+-- the induced rows have an edge between two attributes of an occurrence
+abbrev pub IsInducedAt : FlatRule → List (List ℕ) → Occ → Occ → Type 0
+IsInducedAt r ids u v = (x : SymId) × (symbol_at r u.occ ≡ Some x) × IsSetIn (rows_at ids x.0) u.attr.0 v.attr.0
+
 module _ (symbols : List FlatSymbol) (rules : List FlatRule) (r : FlatRule) where
   -- an edge of the extended dependencies, with any label
   abbrev pub IsExtended : Occ → Occ → Type 0
@@ -79,3 +89,12 @@ module _ (symbols : List FlatSymbol) (rules : List FlatRule) (r : FlatRule) wher
   -- the attribute occurrences can be numbered so that each extended dependency rises
   abbrev pub IsRanked : Type 0
   IsRanked = (rank : Occ → ℕ) × (bound : ℕ) × ((o p : Occ) → IsExtended o p → (rank o < rank p) × (rank p < bound))
+
+  -- an edge leads from each vertex of the cycle to the next
+  abbrev pub AreStepsOf : List Occ → List ℕ → Type 0
+  AreStepsOf occs cycle = (j k u v : ℕ) (o p : Occ) → IsNextPlace (length cycle) j k → slice_get cycle j ≡ Some u → slice_get cycle k ≡ Some v → slice_get occs u ≡ Some o → slice_get occs v ≡ Some p → IsExtended o p
+
+  -- the step begins at a vertex of the cycle, and has the label of the edge to the next
+  abbrev pub IsStepOf : List Occ → List ℕ → ℕ → CycleStep → Type 0
+  IsStepOf occs cycle j s = (k : ℕ) × (u : ℕ) × (v : ℕ) × (p : Occ) × IsNextPlace (length cycle) j k × (slice_get cycle j ≡ Some u) × (slice_get cycle k ≡ Some v) × (slice_get occs u ≡ Some s.from) × (slice_get occs v ≡ Some p)
+      × EDP symbols rules r s.from p s.label

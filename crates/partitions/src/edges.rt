@@ -76,7 +76,7 @@ fn coming_at(
 }
 
 /// For each vertex those at its occurrence that come before it.
-fn symbol_preds(
+pub fn symbol_preds(
     alloc: Global,
     rule: &FlatRule,
     ids: &List<List<u128>>,
@@ -121,7 +121,7 @@ fn add_pred(preds: &mut Vec<List<usize>>, v: usize, u: usize) -> Result<(), Allo
 }
 
 /// Adds the direct dependencies.
-fn add_direct(
+pub fn add_direct(
     preds: &mut Vec<List<usize>>,
     starts: &[usize],
     edges: &[DirectEdge],

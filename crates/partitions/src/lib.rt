@@ -6,7 +6,11 @@ mod classes;
 mod cycle;
 mod direct;
 mod edges;
+mod parts;
 mod peeling;
+mod rule_cycle;
 mod search;
 mod symbols;
 mod vertices;
+
+pub use parts::{PartFault, partition};

@@ -1,8 +1,7 @@
 -- Sets of numbers as the bits of words: union, inclusion, order.
-use Rattle.std.specs.Prelude.{IsBitSet, nat_eq, bit_or, bit_and, max, ◌^◌, ◌*◌, IsTrue, true, ◌≢◌}
+use Rattle.std.specs.Prelude.{IsBitSet, bit_or, max, ◌^◌, ◌*◌}
 use Rattle.std.specs.Int.{bit_at}
-use Rattle.std.proofs.Common.{◌≡◌, ℕ, zero, suc, ◌+◌, ◌<◌, ◌≤◌, ◌⊎◌, inl, inr, refl, sym, ap, subst, ◌∙◌, arith, eq-eqb, ◌↔◌}
-use Rattle.std.proofs.lemmas.Bool.{eqb-true}
+use Rattle.std.proofs.Common.{◌≡◌, ℕ, zero, suc, ◌<◌, ◌≤◌, ◌⊎◌, inl, inr, refl, sym, ap, subst, ◌∙◌, arith}
 use lib.Pow.{pow_pos}
 use Rattle.std.proofs.lemmas.Nat.{le_or_l}
 use Rattle.std.proofs.lemmas.Nat.Bits.{bit_at_or, bit_at-lt, and_pow, same_from_bits}

@@ -1,6 +1,6 @@
 -- The predecessors of vertices, list by list.
-use Rattle.std.specs.Prelude.{IsBitSet, Contains, slice_get, sum_by, ◌↔◌, IsSome, false, true}
-use Rattle.std.proofs.Common.{◌≡◌, ℕ, zero, suc, ◌+◌, ◌-◌, ◌<◌, ◌≤◌, ◌⊎◌, inl, inr, List, [], ◌∷◌, ◌++◌, take, length, length-append, Option, Some, None, get_or, refl, sym, ap, subst, ◌∙◌, arith}
+use Rattle.std.specs.Prelude.{IsBitSet, Contains, slice_get, sum_by, ◌↔◌}
+use Rattle.std.proofs.Common.{◌≡◌, ℕ, zero, suc, ◌+◌, ◌<◌, ◌≤◌, ◌⊎◌, inl, inr, List, [], ◌∷◌, ◌++◌, take, length, Some, get_or, sym, ap, subst, ◌∙◌, arith}
 use Rattle.std.proofs.lemmas.Bool.{cases_lt}
 use Rattle.std.proofs.lemmas.List.Elements.{Contains-append_left}
 use Rattle.std.proofs.lemmas.List.Sums.{sum_by-cons}
@@ -13,7 +13,7 @@ use Rattle.flat_grammar.proofs.Lists.{held}
 use Rattle.partitions.specs.declared.direct.DirectEdge.{DirectEdge}
 use Rattle.partitions.specs.Symbols.{rows_at}
 use Rattle.partitions.specs.Graph.{IsEdge}
-use Rattle.partitions.specs.RuleGraph.{IsSetIn, IsComing, IsNumberOf, IsComingAt, IsDirectAmong}
+use Rattle.partitions.specs.RuleGraph.{IsComing, IsNumberOf, IsComingAt, IsDirectAmong}
 use Rattle.partitions.proofs.PeelingLemmas.{pushed-get, below-length, get-below}
 use Rattle.partitions.proofs.ClassesLemmas.{pushed-contains, contains-pushed}
 

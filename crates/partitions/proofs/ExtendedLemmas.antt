@@ -1,8 +1,8 @@
 -- The graph of a rule has the edges of its extended dependencies.
-use Rattle.std.specs.Prelude.{Bool, IsBitSet, Contains, slice_get, All, ◌↔◌, IsSome, IsTrue, is_some, false, true, ◌||◌, ◌&&◌, map, unwrap_or, ◌==◌}
+use Rattle.std.specs.Prelude.{Bool, Contains, slice_get, All, ◌↔◌, IsSome, IsTrue, is_some, false, true, ◌||◌, ◌&&◌, map, ◌==◌}
 use Rattle.std.specs.List.{flat_map, list_any}
-use Rattle.std.proofs.Common.{◌≡◌, ℕ, zero, suc, ◌+◌, ◌-◌, ◌<◌, ◌≤◌, ◌⊎◌, inl, inr, List, [], ◌∷◌, ◌++◌, length, Option, Some, None, get_or, refl, sym, ap, subst, ◌∙◌, arith, eq-eqb}
-use Rattle.std.proofs.lemmas.Option.{none-some, slice_get-get_or}
+use Rattle.std.proofs.Common.{◌≡◌, ℕ, zero, suc, ◌+◌, ◌<◌, ◌≤◌, ◌⊎◌, inl, inr, List, [], ◌∷◌, length, Option, Some, None, get_or, refl, sym, ap, subst, ◌∙◌, arith, eq-eqb}
+use Rattle.std.proofs.lemmas.Option.{slice_get-get_or}
 use Rattle.std.proofs.lemmas.List.Elements.{Contains-append_left, Contains-append_right, Contains-append_cases}
 use Rattle.lido_base.specs.declared.ids.SymId.{SymId}
 use Rattle.lido_base.specs.declared.ids.AttrId.{AttrId}
@@ -12,20 +12,18 @@ use Rattle.flat_grammar.specs.declared.flat.FlatAttr.{FlatAttr}
 use Rattle.flat_grammar.specs.declared.flat.FlatRule.{FlatRule}
 use Rattle.flat_grammar.specs.declared.flat.FlatComp.{FlatComp}
 use Rattle.flat_grammar.specs.Rules.{symbol_at, symbols_of, attribute_at, attrs_of, dependencies}
-use Rattle.flat_grammar.specs.WellFormed.{attribute_of, is_goal, is_goal_kind, is_same_occ, IsRule}
-use Rattle.flat_grammar.specs.Dependencies.{DP, IDS, IsClosed, AreInducedRows}
-use Rattle.flat_grammar.specs.Partition.{IsPeeled, IsEarlier}
+use Rattle.flat_grammar.specs.WellFormed.{attribute_of, is_goal_kind, is_same_occ, IsRule}
+use Rattle.flat_grammar.specs.Dependencies.{DP, IDS, AreInducedRows}
 use Rattle.flat_grammar.specs.Cycles.{DS}
 use Rattle.flat_grammar.proofs.Lists.{held, contains-nil, contains-cons, contains-first, contains-later, contains-slice_get, slice_get-contains}
 use Rattle.flat_grammar.proofs.DependenciesLemmas.{IDS-least}
 use Rattle.partitions.specs.declared.direct.DirectEdge.{DirectEdge}
-use Rattle.partitions.specs.Peeling.{AreRows, AreLaterRows}
 use Rattle.partitions.specs.Symbols.{rows_at, AreAllLaterRows}
-use Rattle.partitions.specs.Graph.{IsEdge, IsOrdered}
-use Rattle.partitions.specs.RuleGraph.{edges_of, direct_edges_of, IsBefore, AreVertices, AreNumbered, IsSetIn, IsComing, IsNumberOf, IsComingAt, IsDirectAmong, IsExtended, AreExtended, IsRanked}
-use Rattle.partitions.proofs.PeelingLemmas.{below-length, get-below, attribute-some, attribute-below, peeled-attribute, attributes-few}
+use Rattle.partitions.specs.Graph.{IsEdge}
+use Rattle.partitions.specs.RuleGraph.{edges_of, direct_edges_of, AreNumbered, IsComing, IsNumberOf, IsComingAt, IsDirectAmong, IsExtended, AreExtended}
+use Rattle.partitions.proofs.PeelingLemmas.{below-length, get-below, attribute-below, peeled-attribute, attributes-few}
 use Rattle.partitions.proofs.SymbolsLemmas.{rows-of}
-use Rattle.partitions.proofs.VerticesLemmas.{occ-some, occ-below, same-occ}
+use Rattle.partitions.proofs.VerticesLemmas.{occ-some, occ-below}
 
 pub all-at : {X : Type 0} (P : X → Type 0) (xs : List X) (x : X) → All P xs → Contains xs x → P x
 all-at P xs x all (k, l, e) = subst P e (all k x l)

@@ -2,8 +2,7 @@
 use Rattle.std.specs.Prelude.{IsBitSet, Contains, slice_get, All, IsSome, ◌*◌, option_and_then}
 use Rattle.std.proofs.Common.{◌≡◌, ℕ, zero, suc, ◌+◌, ◌<◌, ◌≤◌, ◌⊎◌, inl, inr, ◌↔◌, List, [], ◌∷◌, ◌++◌, length, Option, Some, None, get_or, refl, sym, ap, subst, ◌∙◌, arith}
 use Rattle.std.proofs.lemmas.Option.{none-some, slice_get-get_or}
-use Rattle.std.proofs.lemmas.Bool.{cases_lt, cases_order}
-use Rattle.std.specs.List.{slice_index_or}
+use Rattle.std.proofs.lemmas.Bool.{cases_lt}
 use Rattle.lido_base.specs.declared.ids.SymId.{SymId}
 use Rattle.lido_base.specs.declared.ids.AttrId.{AttrId}
 use Rattle.lido_base.specs.declared.kinds.Kind.{Kind}
@@ -15,10 +14,9 @@ use Rattle.flat_grammar.specs.Rules.{attribute_at, attrs_of}
 use Rattle.flat_grammar.specs.Dependencies.{IDS}
 use Rattle.flat_grammar.specs.Partition.{IsPeeled, HasKind, IsClosedSet, kind_of_class, PeelsAll}
 use Rattle.flat_grammar.proofs.Lists.{contains-nil, contains-cons, contains-first, contains-later, held}
-use Rattle.flat_grammar.proofs.PartitionLemmas.{IsPeeled-grows}
 use Rattle.partitions.specs.declared.peeling.Levels.{Levels}
 use Rattle.partitions.specs.Peeling.{AreRows, ArePeeled, AreLevels, AreAllLevels, IsLast, IsKept}
-use Rattle.partitions.proofs.BitsLemmas.{is-set, empty-set, within-le, same-sets}
+use Rattle.partitions.proofs.BitsLemmas.{is-set, empty-set, within-le}
 
 -- A set of the numbers below i with a property, found one by one.
 module _ (P : ℕ → Type 0) where

@@ -1,6 +1,6 @@
 -- Where no rule has a cycle, each attribute is in some class.
 use Rattle.std.specs.Prelude.{Contains, slice_get, All, IsSome, ◌*◌}
-use Rattle.std.proofs.Common.{◌≡◌, ℕ, zero, suc, ◌+◌, ◌<◌, ◌≤◌, ◌⊎◌, inl, inr, List, [], ◌∷◌, take, length, Option, Some, None, refl, sym, ap, subst, ◌∙◌, arith}
+use Rattle.std.proofs.Common.{◌≡◌, ℕ, zero, suc, ◌+◌, ◌<◌, ◌≤◌, ◌⊎◌, inl, inr, List, [], ◌∷◌, take, length, Option, Some, None, refl, sym, subst, arith}
 use Rattle.std.specs.List.{slice_index_or}
 use Rattle.std.proofs.lemmas.Option.{slice_get-get_or}
 use Rattle.lido_base.specs.declared.ids.SymId.{SymId}
@@ -11,18 +11,17 @@ use Rattle.flat_grammar.specs.declared.flat.Occ.{Occ}
 use Rattle.flat_grammar.specs.declared.flat.FlatSymbol.{FlatSymbol}
 use Rattle.flat_grammar.specs.declared.flat.FlatAttr.{FlatAttr}
 use Rattle.flat_grammar.specs.declared.flat.FlatRule.{FlatRule}
-use Rattle.flat_grammar.specs.declared.plan.CycleStep.{CycleStep}
 use Rattle.flat_grammar.specs.Rules.{symbol_at, attribute_at}
 use Rattle.flat_grammar.specs.WellFormed.{IsRule}
 use Rattle.flat_grammar.specs.Dependencies.{IDS, joined}
-use Rattle.flat_grammar.specs.Partition.{IsPeeled, HasKind, IsClosedSet, kind_of_class}
-use Rattle.flat_grammar.specs.Cycles.{IsCycle, IsAcyclic, IsCircular, IsOrderedGrammar}
-use Rattle.flat_grammar.proofs.Lists.{contains-first, contains-cons, contains-nil, contains-slice_get, slice_get-take, slice_get-contains}
+use Rattle.flat_grammar.specs.Partition.{IsPeeled, HasKind, kind_of_class}
+use Rattle.flat_grammar.specs.Cycles.{IsAcyclic, IsOrderedGrammar}
+use Rattle.flat_grammar.proofs.Lists.{contains-first, contains-cons, contains-nil, slice_get-contains}
 use Rattle.flat_grammar.proofs.PartitionLemmas.{IsPeeled-grows}
 use Rattle.partitions.specs.Peeling.{IsLast}
 use Rattle.partitions.specs.Symbols.{IsAllPeeled, HasLast}
 use Rattle.partitions.specs.RuleGraph.{IsExtended, IsRanked}
-use Rattle.partitions.proofs.PeelingLemmas.{even-kind, odd-kind, get-below, below-length}
+use Rattle.partitions.proofs.PeelingLemmas.{even-kind, odd-kind, below-length}
 use Rattle.partitions.proofs.SearchLemmas.{take-get}
 use Rattle.partitions.proofs.ExtendedLemmas.{induced-some}
 use Rattle.partitions.proofs.StepsLemmas.{ranked-acyclic}

@@ -1,25 +1,22 @@
 -- Labels and steps: a cycle of the graph is a cycle of the rule, and an order of the graph leaves none.
-use Rattle.std.specs.Prelude.{IsBitSet, Contains, slice_get, All, AllPairs, ◌↔◌, IsSome, unwrap_or, true, false}
+use Rattle.std.specs.Prelude.{slice_get, All, AllPairs, unwrap_or}
 use Rattle.std.specs.List.{slice_index_or}
-use Rattle.std.proofs.Common.{◌≡◌, ℕ, zero, suc, ◌+◌, ◌-◌, ◌<◌, ◌≤◌, ◌⊎◌, inl, inr, List, [], ◌∷◌, ◌++◌, length, Option, Some, None, get_or, refl, sym, ap, subst, ◌∙◌, arith}
+use Rattle.std.proofs.Common.{◌≡◌, ℕ, suc, ◌+◌, ◌<◌, inl, inr, List, [], ◌∷◌, length, Option, Some, get_or, refl, sym, ap, subst, ◌∙◌, arith}
 use Rattle.std.proofs.lemmas.Bool.{cases_lt}
-use Rattle.std.proofs.lemmas.Option.{none-some, slice_get-get_or}
+use Rattle.std.proofs.lemmas.Option.{slice_get-get_or}
 use Rattle.lido_base.specs.declared.ids.SymId.{SymId}
-use Rattle.lido_base.specs.declared.ids.AttrId.{AttrId}
 use Rattle.flat_grammar.specs.declared.flat.Occ.{Occ}
 use Rattle.flat_grammar.specs.declared.flat.FlatSymbol.{FlatSymbol}
 use Rattle.flat_grammar.specs.declared.flat.FlatRule.{FlatRule}
 use Rattle.flat_grammar.specs.declared.plan.CycleStep.{CycleStep}
 use Rattle.flat_grammar.specs.declared.plan.Label.{Label}
 use Rattle.flat_grammar.specs.declared.plan.Label.TheVariants.{Direct, Induced, Partition}
-use Rattle.flat_grammar.specs.Rules.{symbol_at, attribute_at}
 use Rattle.flat_grammar.specs.WellFormed.{IsRule}
-use Rattle.flat_grammar.specs.Dependencies.{DP, IDS, AreInducedRows, joined}
-use Rattle.flat_grammar.specs.Partition.{IsPeeled, IsEarlier, HasKind, IsClosedSet, kind_of_class}
-use Rattle.flat_grammar.specs.Cycles.{DS, EDP, IsWalk, IsCycle, IsAcyclic, IsAtMost, direct, induced, partition}
-use Rattle.flat_grammar.proofs.Lists.{held, contains-slice_get}
+use Rattle.flat_grammar.specs.Dependencies.{DP, IDS, AreInducedRows}
+use Rattle.flat_grammar.specs.Cycles.{EDP, IsWalk, IsCycle, IsAcyclic, IsAtMost, direct, induced, partition}
+use Rattle.flat_grammar.proofs.Lists.{held}
 use Rattle.partitions.specs.Graph.{IsEdge, IsGraph, IsOrdered, IsGraphCycle}
-use Rattle.partitions.specs.RuleGraph.{AreVertices, AreNumbered, IsSetIn, IsNumberOf, IsExtended, AreExtended, IsRanked, IsInducedAt, IsNextPlace, AreStepsOf, IsStepOf}
+use Rattle.partitions.specs.RuleGraph.{AreNumbered, IsSetIn, IsNumberOf, IsExtended, AreExtended, IsRanked, IsInducedAt, IsNextPlace, AreStepsOf, IsStepOf}
 use Rattle.partitions.specs.Symbols.{rows_at}
 use Rattle.partitions.proofs.PeelingLemmas.{below-length, get-below, attribute-below}
 use Rattle.partitions.proofs.SymbolsLemmas.{rows-of}

@@ -1,8 +1,7 @@
 -- The visits of the symbols, one after the other.
-use Rattle.std.specs.Prelude.{true, false, IsBitSet, slice_get, IsSome, IsTrue, IsFalse, ◌*◌, map, ◌↔◌}
-use Rattle.std.proofs.Common.{◌≡◌, ℕ, zero, suc, ◌+◌, ◌<◌, ◌≤◌, ◌⊎◌, inl, inr, List, [], ◌∷◌, ◌++◌, length, length-append, Option, Some, None, refl, sym, ap, subst, ◌∙◌, arith, reverse}
+use Rattle.std.specs.Prelude.{true, false, IsBitSet, slice_get, ◌*◌, map, ◌↔◌}
+use Rattle.std.proofs.Common.{◌≡◌, ℕ, zero, suc, ◌+◌, ◌<◌, ◌≤◌, inl, inr, List, [], ◌∷◌, ◌++◌, length, length-append, Option, Some, None, refl, sym, ap, subst, ◌∙◌, arith, reverse}
 use Rattle.std.proofs.lemmas.Bool.{cases_lt}
-use Rattle.std.proofs.lemmas.List.{length-map}
 use Rattle.std.proofs.lemmas.Option.{none-some, slice_get_past}
 use Rattle.lido_base.specs.declared.ids.SymId.{SymId}
 use Rattle.lido_base.specs.declared.ids.AttrId.{AttrId}
@@ -10,15 +9,13 @@ use Rattle.flat_grammar.specs.declared.flat.FlatSymbol.{FlatSymbol}
 use Rattle.flat_grammar.specs.declared.flat.FlatAttr.{FlatAttr}
 use Rattle.flat_grammar.specs.declared.flat.FlatRule.{FlatRule}
 use Rattle.flat_grammar.specs.declared.plan.VisitClass.{VisitClass}
-use Rattle.flat_grammar.specs.Rules.{attribute_at, attrs_of}
+use Rattle.flat_grammar.specs.Rules.{attrs_of}
 use Rattle.flat_grammar.specs.WellFormed.{is_nonterminal}
 use Rattle.flat_grammar.specs.Dependencies.{IDS, AreInducedRows}
-use Rattle.flat_grammar.specs.Partition.{IsPeeled, PeelsAll, AreVisits, AreAllVisits, IsClass}
-use Rattle.flat_grammar.proofs.Lists.{held}
-use Rattle.partitions.specs.declared.peeling.Levels.{Levels}
+use Rattle.flat_grammar.specs.Partition.{IsPeeled, PeelsAll, AreAllVisits, IsClass}
 use Rattle.partitions.specs.Peeling.{AreRows, AreLaterRows, IsLast}
 use Rattle.partitions.specs.Symbols.{rows_at, IsAllPeeled, AreItsVisits, HasLast, AreAllLaterRows}
-use Rattle.partitions.proofs.PeelingLemmas.{pushed-get, get-below, below-length, peeled-attribute, attribute-below, attribute-get}
+use Rattle.partitions.proofs.PeelingLemmas.{pushed-get, get-below, peeled-attribute, attribute-below}
 
 module _ (symbols : List FlatSymbol) (rules : List FlatRule) where
   attrs-past : (x : SymId) → length symbols ≤ x.0 → attrs_of symbols x ≡ []

@@ -1,18 +1,15 @@
 -- The vertices of a rule, one after the other.
-use Rattle.std.specs.Prelude.{slice_get, IsSome, Contains}
-use Rattle.std.proofs.Common.{◌≡◌, ℕ, zero, suc, ◌+◌, ◌-◌, ◌<◌, ◌≤◌, ◌⊎◌, inl, inr, List, [], ◌∷◌, ◌++◌, length, length-append, Option, Some, None, refl, sym, ap, subst, ◌∙◌, arith}
+use Rattle.std.specs.Prelude.{slice_get, IsSome}
+use Rattle.std.proofs.Common.{◌≡◌, ℕ, ◌+◌, ◌<◌, ◌≤◌, ◌⊎◌, inl, inr, List, [], ◌∷◌, ◌++◌, length, length-append, Option, Some, None, refl, sym, ap, subst, ◌∙◌, arith}
 use Rattle.std.proofs.lemmas.Bool.{cases_lt}
 use Rattle.std.proofs.lemmas.Option.{none-some}
 use Rattle.lido_base.specs.declared.ids.SymId.{SymId}
-use Rattle.lido_base.specs.declared.ids.AttrId.{AttrId}
 use Rattle.flat_grammar.specs.declared.flat.Occ.{Occ}
 use Rattle.flat_grammar.specs.declared.flat.FlatSymbol.{FlatSymbol}
-use Rattle.flat_grammar.specs.declared.flat.FlatAttr.{FlatAttr}
 use Rattle.flat_grammar.specs.declared.flat.FlatRule.{FlatRule}
-use Rattle.flat_grammar.specs.Rules.{symbol_at, symbols_of, attribute_at, attrs_of}
+use Rattle.flat_grammar.specs.Rules.{symbol_at, attribute_at, attrs_of}
 use Rattle.flat_grammar.specs.WellFormed.{attribute_of}
 use Rattle.flat_grammar.specs.Cycles.{IsAtMost}
-use Rattle.flat_grammar.proofs.Lists.{held}
 use Rattle.partitions.specs.RuleGraph.{IsBefore, AreVerticesBefore}
 use Rattle.partitions.proofs.PeelingLemmas.{pushed-get, below-length, attribute-some, attribute-below}
 use Rattle.partitions.proofs.SearchLemmas.{push-old, push-new}

@@ -1,10 +1,10 @@
 -- What is peeled of a symbol's attributes, as the bits of words.
-use Rattle.std.specs.Prelude.{◌≡◌, ℕ, suc, ◌+◌, ◌*◌, ◌⊎◌, ◌↔◌, List, length, Some, slice_get, IsSome, IsBitSet}
+use Rattle.std.specs.Prelude.{◌≡◌, ℕ, ◌+◌, ◌*◌, ◌⊎◌, ◌↔◌, List, length, Some, slice_get, IsBitSet}
 use Rattle.lido_base.specs.declared.ids.SymId.{SymId}
 use Rattle.lido_base.specs.declared.ids.AttrId.{AttrId}
 use Rattle.flat_grammar.specs.declared.flat.FlatSymbol.{FlatSymbol}
 use Rattle.flat_grammar.specs.declared.flat.FlatRule.{FlatRule}
-use Rattle.flat_grammar.specs.Rules.{attribute_at, attrs_of}
+use Rattle.flat_grammar.specs.Rules.{attrs_of}
 use Rattle.flat_grammar.specs.Dependencies.{IDS}
 use Rattle.flat_grammar.specs.Partition.{IsPeeled, IsEarlier}
 use Rattle.partitions.specs.declared.peeling.Levels.{Levels}

@@ -1,5 +1,5 @@
 -- The extended dependencies of a rule as a graph over numbered vertices.
-use Rattle.std.specs.Prelude.{◌≡◌, ℕ, suc, ◌+◌, ◌<◌, ◌≤◌, ◌⊎◌, ◌↔◌, List, [], map, length, Some, slice_get, IsSome, IsBitSet}
+use Rattle.std.specs.Prelude.{◌≡◌, ℕ, suc, ◌+◌, ◌<◌, ◌≤◌, ◌⊎◌, List, map, length, Some, slice_get, IsSome, IsBitSet}
 use Rattle.std.specs.List.{flat_map}
 use Rattle.lido_base.specs.declared.ids.SymId.{SymId}
 use Rattle.flat_grammar.specs.declared.flat.Occ.{Occ}

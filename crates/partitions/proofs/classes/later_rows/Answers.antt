@@ -1,5 +1,5 @@
-use Rattle.std.proofs.Common.{◌≡◌, ℕ, ◌<◌, ◌+◌, ◌∙◌, refl, sym, subst, ap, arith, [], ◌∷◌, List, length, length-append, Some, inl, inr}
-use Rattle.std.specs.Prelude.{slice_get, IsBitSet, ◌↔◌, IsSome}
+use Rattle.std.proofs.Common.{◌≡◌, ℕ, ◌∙◌, sym, subst, ap, arith, [], ◌∷◌, List, length, length-append, Some, inl, inr}
+use Rattle.std.specs.Prelude.{slice_get, IsBitSet, ◌↔◌}
 use Rattle.flat_grammar.specs.declared.flat.FlatAttr.{FlatAttr}
 use Rattle.flat_grammar.specs.Rules.{attrs_of}
 use Rattle.partitions.specs.Peeling.{IsPastAmong}

@@ -1,8 +1,6 @@
-use Rattle.std.proofs.Common.{◌≡◌, ◌<◌, ◌+◌, ◌∙◌, refl, sym, subst, ap, arith, ◌↔◌, [], length}
-use Rattle.std.specs.Prelude.{IsBitSet, false, true, Contains, map}
-use Rattle.std.specs.List.Sorted.{IsStrictlyIncreasing}
-use Rattle.lido_base.specs.declared.ids.AttrId.{AttrId}
-use Rattle.partitions.proofs.ClassesLemmas.{AreMembers, members-push, members-skip}
+use Rattle.std.proofs.Common.{◌≡◌, ◌∙◌, refl, sym, ap, arith}
+use Rattle.std.specs.Prelude.{IsBitSet, false, true}
+use Rattle.partitions.proofs.ClassesLemmas.{members-push, members-skip}
 use Rattle.partitions.proofs.classes.members.Goals.{then-is_new+in_ok-push, else-is_new}
 use Rattle.partitions.proofs.classes.members.Goals as goal
 

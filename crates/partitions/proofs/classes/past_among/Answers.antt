@@ -1,12 +1,11 @@
-use Rattle.std.proofs.Common.{◌≡◌, ℕ, ◌<◌, ◌+◌, ◌∙◌, inl, inr, ◌⊎◌, Some, get_or, refl, sym, subst, ap, arith}
-use Rattle.std.specs.Prelude.{IsBitSet, slice_get}
+use Rattle.std.proofs.Common.{◌≡◌, ◌∙◌, inl, inr, Some, get_or, sym, subst, ap, arith}
+use Rattle.std.specs.Prelude.{slice_get}
 use Rattle.std.proofs.lemmas.Bool.{cases_lt}
 use Rattle.std.proofs.lemmas.Option.{slice_get-get_or}
 use Rattle.flat_grammar.proofs.Lists.{held}
 use Rattle.partitions.specs.declared.peeling.Levels.{Levels}
 use Rattle.partitions.specs.Peeling.{IsPast}
 use Rattle.partitions.proofs.PeelingLemmas.{below-length}
-use Rattle.partitions.proofs.BitsLemmas.{empty-set}
 use Rattle.partitions.proofs.classes.past_among.Goals as goal
 
 pub loop-levels-preserved : goal.loop-levels-preserved

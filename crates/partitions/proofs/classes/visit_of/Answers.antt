@@ -1,4 +1,4 @@
-use Rattle.std.proofs.Common.{◌≡◌, ◌∙◌, ap, sym, subst, length, List}
+use Rattle.std.proofs.Common.{ap, sym, subst, length, List}
 use Rattle.flat_grammar.specs.declared.flat.FlatAttr.{FlatAttr}
 use Rattle.lido_base.specs.declared.ids.AttrId.{AttrId}
 use Rattle.flat_grammar.specs.Partition.{IsClass}

@@ -1,4 +1,4 @@
-use Rattle.std.proofs.Common.{◌≡◌, ◌<◌, ◌+◌, ◌∙◌, reverse, refl, sym, subst, ap, arith, [], ◌∷◌, List, length, length-append, Some, get_or}
+use Rattle.std.proofs.Common.{◌≡◌, ◌∙◌, reverse, subst, ap, arith, [], ◌∷◌, List, length, length-append, Some}
 use Rattle.std.specs.Prelude.{slice_get}
 use Rattle.std.proofs.lemmas.List.{reverse-reverse}
 use Rattle.std.proofs.lemmas.Option.{slice_get-get_or}

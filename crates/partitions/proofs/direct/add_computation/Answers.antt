@@ -1,6 +1,4 @@
-use Rattle.std.proofs.Common.{◌≡◌, ◌++◌, ◌∙◌, List, map, ap, sym, subst}
-use Rattle.flat_grammar.specs.declared.flat.Occ.{Occ}
-use Rattle.partitions.specs.declared.direct.DirectEdge.{DirectEdge}
+use Rattle.std.proofs.Common.{◌∙◌}
 use Rattle.partitions.proofs.ReadsLemmas.{computation-edges}
 use Rattle.partitions.proofs.direct.add_computation.Goals as goal
 

@@ -1,4 +1,4 @@
-use Rattle.std.proofs.Common.{◌≡◌, ap, sym, ◌∙◌}
+use Rattle.std.proofs.Common.{ap, ◌∙◌}
 use Rattle.flat_grammar.specs.Rules.{reads}
 use Rattle.flat_grammar.proofs.ExpressionsLemmas.{reads-Apply, reads-If, reads-Order}
 use Rattle.partitions.specs.Reads.{steps}

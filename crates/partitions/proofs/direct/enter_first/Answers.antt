@@ -1,4 +1,4 @@
-use Rattle.std.proofs.Common.{◌≡◌, refl, ◌∙◌, ap, sym}
+use Rattle.std.proofs.Common.{refl}
 use Rattle.partitions.proofs.ReadsLemmas.{first-reads, first-steps}
 use Rattle.partitions.proofs.direct.enter_first.Goals as goal
 

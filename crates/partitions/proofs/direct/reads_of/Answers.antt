@@ -1,4 +1,4 @@
-use Rattle.std.proofs.Common.{◌≡◌, refl, ◌∙◌, ap, sym}
+use Rattle.std.proofs.Common.{refl}
 use Rattle.flat_grammar.specs.Rules.{reads}
 use Rattle.partitions.proofs.ReadsLemmas.{pop-reads, pop-steps}
 use Rattle.partitions.proofs.direct.reads_of.Goals as goal

@@ -1,4 +1,4 @@
-use Rattle.std.proofs.Common.{◌≡◌, ◌∙◌, sym, subst, ap, arith, get_or}
+use Rattle.std.proofs.Common.{arith}
 use Rattle.std.proofs.lemmas.Option.{slice_get-get_or}
 use Rattle.partitions.proofs.EdgesLemmas.{added-push, added-all}
 use Rattle.partitions.proofs.edges.add_direct.Goals as goal

@@ -1,4 +1,4 @@
-use Rattle.std.proofs.Common.{◌≡◌, ◌<◌, ◌+◌, ◌∙◌, refl, sym, ap, arith, length, ℕ}
+use Rattle.std.proofs.Common.{◌≡◌, ◌∙◌, refl, sym, ap, arith}
 use Rattle.std.specs.Prelude.{true, false}
 use Rattle.partitions.proofs.EdgesLemmas.{coming-push, coming-skip, coming-at, coming-of, coming-below}
 use Rattle.partitions.proofs.edges.coming.Goals.{then-is_in_one+in_ok-push, else-is_in_one}

@@ -1,4 +1,4 @@
-use Rattle.std.proofs.Common.{◌≡◌, ◌∙◌, sym, subst, ap, arith, List, ℕ, get_or}
+use Rattle.std.proofs.Common.{sym, subst, arith, List, ℕ, get_or}
 use Rattle.std.specs.Prelude.{Contains, ◌↔◌}
 use Rattle.std.proofs.lemmas.Option.{slice_get-get_or}
 use Rattle.partitions.specs.RuleGraph.{IsComingAt}

@@ -1,4 +1,4 @@
-use Rattle.std.proofs.Common.{◌≡◌, ◌+◌, ◌∙◌, sym, subst, ap, arith, List, ℕ, Some, get_or, length, length-append}
+use Rattle.std.proofs.Common.{◌∙◌, sym, subst, ap, arith, List, ℕ, get_or, length, length-append}
 use Rattle.std.specs.Prelude.{Contains, ◌↔◌, slice_get}
 use Rattle.std.proofs.lemmas.Option.{slice_get-get_or}
 use Rattle.flat_grammar.specs.declared.flat.Occ.{Occ}

@@ -1,4 +1,4 @@
-use Rattle.std.proofs.Common.{◌≡◌, ◌<◌, ◌+◌, ℕ, List, length, Some}
+use Rattle.std.proofs.Common.{◌≡◌, ℕ, List, length, Some}
 use Rattle.std.specs.Prelude.{Contains, ◌↔◌, slice_get}
 use Rattle.flat_grammar.specs.declared.flat.Occ.{Occ}
 use Rattle.partitions.specs.RuleGraph.{IsComingAt}

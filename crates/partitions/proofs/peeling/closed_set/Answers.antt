@@ -1,4 +1,4 @@
-use Rattle.std.proofs.Common.{◌<◌, ◌≤◌, length, arith}
+use Rattle.std.proofs.Common.{arith}
 use Rattle.partitions.proofs.BitsLemmas.{within-le}
 use Rattle.partitions.proofs.PeelingLemmas.{attributes-few, kept-greatest}
 use Rattle.partitions.proofs.peeling.closed_set.Goals as goal

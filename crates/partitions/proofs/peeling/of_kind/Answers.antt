@@ -1,4 +1,4 @@
-use Rattle.std.proofs.Common.{◌≡◌, ◌<◌, ◌+◌, ◌∙◌, sym, subst, ap, arith, length}
+use Rattle.std.proofs.Common.{◌≡◌, ◌+◌, ◌∙◌, sym, subst, arith}
 use Rattle.std.specs.Prelude.{false, true}
 use Rattle.flat_grammar.specs.Partition.{HasKind}
 use Rattle.partitions.proofs.PeelingLemmas.{IsFound, found-one, found-not, found-all, kind-at, kind-of, kind-below}

@@ -1,4 +1,4 @@
-use Rattle.std.proofs.Common.{◌≡◌, suc, ◌+◌, ◌≤◌, ◌∙◌, ap, sym, subst, arith, [], ◌∷◌, ◌++◌, length, vec_len}
+use Rattle.std.proofs.Common.{◌≡◌, ◌+◌, ◌≤◌, ◌∙◌, ap, sym, subst, arith, [], ◌∷◌, ◌++◌, vec_len}
 use Rattle.std.specs.Prelude.{◌*◌}
 use Rattle.partitions.specs.Peeling.{ArePeeled}
 use Rattle.partitions.proofs.PeelingLemmas.{last-levels, fewest-step, nothing-peeled, next-level, levels-push}

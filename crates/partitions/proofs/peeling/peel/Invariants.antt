@@ -1,4 +1,4 @@
-use Rattle.std.proofs.Common.{ℕ, ◌+◌, ◌-◌, ◌<◌, vec_len}
+use Rattle.std.proofs.Common.{ℕ, ◌-◌, ◌<◌, vec_len}
 use Rattle.std.specs.Prelude.{◌*◌, ◌^◌}
 use Rattle.flat_grammar.specs.Partition.{PeelsAll}
 use Rattle.partitions.specs.Peeling.{ArePeeled, AreAllLevels}

@@ -1,6 +1,5 @@
 use Rattle.std.proofs.Common.{◌≡◌, List, sym, subst, ◌∙◌}
 use Rattle.std.specs.Prelude.{Contains, true, false}
-use Rattle.flat_grammar.specs.Dependencies.{DP}
 use Rattle.flat_grammar.specs.Cycles.{direct}
 use Rattle.partitions.specs.declared.direct.DirectEdge.{DirectEdge}
 use Rattle.partitions.proofs.ExtendedLemmas.{direct-of, direct-in}

@@ -1,4 +1,4 @@
-use Rattle.std.proofs.Common.{◌≡◌, arith}
+use Rattle.std.proofs.Common.{arith}
 use Rattle.partitions.specs.declared.search.Mark.TheVariants.{Closed}
 use Rattle.partitions.proofs.SearchLemmas.{close-all, close-nearer, later-set, step-below}
 use Rattle.partitions.proofs.search.close.Goals as goal

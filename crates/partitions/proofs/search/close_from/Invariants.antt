@@ -1,4 +1,4 @@
-use Rattle.std.proofs.Common.{◌≡◌, ℕ, Some}
+use Rattle.std.proofs.Common.{◌≡◌, Some}
 use Rattle.std.specs.Prelude.{slice_get, sum_by}
 use Rattle.partitions.specs.declared.search.Mark.TheVariants.{Fresh}
 use Rattle.partitions.specs.Search.{IsSearch, IsLater, weight}

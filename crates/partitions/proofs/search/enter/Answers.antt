@@ -1,4 +1,3 @@
-use Rattle.std.proofs.Common.{◌≡◌}
 use Rattle.partitions.specs.declared.search.Mark.TheVariants.{Fresh, Entered}
 use Rattle.partitions.proofs.SearchLemmas.{search-enter, weight-enter, later-set, set-same}
 use Rattle.partitions.proofs.search.enter.Goals as goal

@@ -1,4 +1,4 @@
-use Rattle.std.proofs.Common.{◌≡◌, ◌<◌, length, subst, arith, List, ℕ}
+use Rattle.std.proofs.Common.{subst, arith, List, ℕ}
 use Rattle.partitions.specs.Search.{IsCycleOn}
 use Rattle.partitions.proofs.CycleLemmas.{is-ordered, is-cycle}
 use Rattle.partitions.proofs.search.find_cycle.Goals as goal

@@ -1,7 +1,6 @@
-use Rattle.std.proofs.Common.{◌≡◌, ℕ, List, [], length, sym, subst}
+use Rattle.std.proofs.Common.{ℕ, List, [], length, sym, subst}
 use Rattle.std.specs.Prelude.{replicate}
 use Rattle.partitions.specs.declared.search.Mark.{Mark}
-use Rattle.partitions.specs.declared.search.Mark.TheVariants.{Fresh}
 use Rattle.partitions.specs.Search.{IsSearch}
 use Rattle.partitions.proofs.CycleLemmas.{new-search}
 use Rattle.partitions.proofs.search.new_search.Goals as goal

@@ -1,9 +1,8 @@
-use Rattle.std.proofs.Common.{◌≡◌, ◌<◌, ℕ, ◌∙◌, List, Some, get_or, suc, length, sym, ap, subst, arith}
+use Rattle.std.proofs.Common.{◌≡◌, ℕ, ◌∙◌, List, Some, get_or, length, sym, ap, subst, arith}
 use Rattle.std.specs.Prelude.{slice_get, true, false}
 use Rattle.std.proofs.lemmas.Option.{slice_get-get_or}
 use Rattle.flat_grammar.proofs.Lists.{held}
 use Rattle.partitions.specs.declared.search.Mark.{Mark}
-use Rattle.partitions.specs.Graph.{IsEdge}
 use Rattle.partitions.specs.Search.{IsClosed, IsBack}
 use Rattle.partitions.proofs.PeelingLemmas.{below-length}
 use Rattle.partitions.proofs.SearchLemmas.{step-below, row-at, row-edge, edge-row, is-back, last-edge, mark-entered}

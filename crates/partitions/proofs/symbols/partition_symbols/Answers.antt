@@ -1,7 +1,5 @@
-use Rattle.std.proofs.Common.{◌≡◌, ◌+◌, ◌∙◌, refl, sym, subst, ap, arith, length, List, ℕ}
-use Rattle.lido_base.specs.declared.ids.SymId.{SymId}
+use Rattle.std.proofs.Common.{refl, sym, subst, arith, List, ℕ}
 use Rattle.flat_grammar.specs.declared.plan.VisitClass.{VisitClass}
-use Rattle.flat_grammar.specs.declared.flat.FlatSymbol.{FlatSymbol}
 use Rattle.flat_grammar.specs.Partition.{AreAllVisits}
 use Rattle.partitions.specs.Peeling.{AreRows}
 use Rattle.partitions.specs.Symbols.{AreAllLaterRows}

@@ -1,7 +1,3 @@
-use Rattle.std.proofs.Common.{◌≡◌, ◌<◌, Some, length}
-use Rattle.lido_base.specs.declared.ids.SymId.{SymId}
-use Rattle.partitions.specs.Peeling.{AreLaterRows}
-use Rattle.partitions.specs.Symbols.{IsAllPeeled, HasLast}
 use Rattle.partitions.proofs.SymbolsLemmas.{ArePartsBelow}
 use Rattle.partitions.proofs.symbols.partition_symbols.Given as goal
 

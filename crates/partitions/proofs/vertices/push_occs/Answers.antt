@@ -1,4 +1,4 @@
-use Rattle.std.proofs.Common.{◌≡◌, ◌+◌, ◌∷◌, [], refl, ◌∙◌, ap, sym, length, length-append, List, arith}
+use Rattle.std.proofs.Common.{refl, ◌∙◌, ap, length, length-append, List, arith}
 use Rattle.flat_grammar.specs.declared.flat.Occ.{Occ}
 use Rattle.flat_grammar.specs.declared.flat.FlatAttr.{FlatAttr}
 use Rattle.partitions.proofs.VerticesLemmas.{vertex-push, next-occurrence}

@@ -1,8 +1,7 @@
-use Rattle.std.proofs.Common.{◌≡◌, ◌+◌, suc, ◌∷◌, ◌++◌, [], take, refl, ◌∙◌, ap, sym, subst, length, length-append, List, ℕ, Some, arith}
+use Rattle.std.proofs.Common.{◌≡◌, ◌+◌, suc, ◌∷◌, ◌++◌, [], take, ◌∙◌, ap, sym, subst, length, length-append, List, ℕ, Some, arith}
 use Rattle.std.specs.Prelude.{slice_get, sum_by}
 use Rattle.std.proofs.lemmas.List.{take_all}
 use Rattle.lido_base.specs.declared.ids.SymId.{SymId}
-use Rattle.flat_grammar.specs.declared.flat.Occ.{Occ}
 use Rattle.flat_grammar.specs.Rules.{symbols_of, attrs_of}
 use Rattle.partitions.specs.RuleGraph.{AreVerticesBefore}
 use Rattle.partitions.proofs.PeelingLemmas.{get-below}

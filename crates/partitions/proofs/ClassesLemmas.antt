@@ -1,0 +1,148 @@
+-- Ascending lists of a class's attributes, and the attributes in later classes.
+use Rattle.std.specs.Prelude.{IsBitSet, Contains, slice_get, IsSome, ◌*◌, map}
+use Rattle.std.specs.List.Sorted.{IsStrictlyIncreasing}
+use Rattle.std.proofs.Common.{◌≡◌, ℕ, zero, suc, ◌+◌, ◌-◌, ◌<◌, ◌⊎◌, inl, inr, ◌↔◌, List, [], ◌∷◌, ◌++◌, length, length-append, Some, get_or, refl, sym, ap, subst, ◌∙◌, arith}
+use Rattle.std.proofs.lemmas.Bool.{cases_lt}
+use Rattle.std.proofs.lemmas.List.{get_or_append_left, map-append}
+use Rattle.std.proofs.lemmas.List.Elements.{Contains-append_left, Contains-append_right}
+use Rattle.std.proofs.lemmas.Option.{slice_get-get_or}
+use Rattle.std.proofs.Math.Seq.{get_or-append_seam}
+use Rattle.lido_base.specs.declared.ids.SymId.{SymId}
+use Rattle.lido_base.specs.declared.ids.AttrId.{AttrId}
+use Rattle.flat_grammar.specs.declared.flat.FlatSymbol.{FlatSymbol}
+use Rattle.flat_grammar.specs.declared.flat.FlatRule.{FlatRule}
+use Rattle.flat_grammar.specs.declared.plan.VisitClass.{VisitClass}
+use Rattle.flat_grammar.specs.Rules.{attribute_at, attrs_of}
+use Rattle.flat_grammar.specs.Partition.{IsPeeled, IsClass, IsEarlier}
+use Rattle.flat_grammar.proofs.Lists.{contains-first, slice_get-contains, contains-slice_get}
+use Rattle.flat_grammar.proofs.PartitionLemmas.{IsPeeled-grows}
+use Rattle.partitions.specs.declared.peeling.Levels.{Levels}
+use Rattle.partitions.specs.Peeling.{ArePeeled, AreLevels, AreAllLevels, IsLast, IsPastAmong}
+use Rattle.partitions.proofs.PeelingLemmas.{pushed-get, get-below, peeled-attribute, attribute-below}
+
+pub pushed-contains : {X : Type 0} (xs : List X) (y z : X) → Contains (xs ++ (y ∷ [])) z → Contains xs z ⊎ (y ≡ z)
+pushed-contains xs y z m = let p = slice_get-contains (xs ++ (y ∷ [])) z m in elim (pushed-get xs y p.0 z p.1) [ inl old ↦ inl (contains-slice_get xs p.0 z old) | inr new ↦ inr new.1 ]
+
+pub contains-pushed : {X : Type 0} (xs : List X) (y : X) → Contains (xs ++ (y ∷ [])) y
+contains-pushed xs y = Contains-append_right xs (y ∷ []) y (contains-first y [])
+
+increasing-push : (xs : List ℕ) (y : ℕ) → IsStrictlyIncreasing xs → ((x : ℕ) → Contains xs x → x < y) → IsStrictlyIncreasing (xs ++ (y ∷ []))
+increasing-push xs y ascends below k h = elim (cases_lt (k + 1) (length xs)) [
+  | inl l ↦ let a = get_or_append_left xs (y ∷ []) 0 k (omega arith) in let b = get_or_append_left xs (y ∷ []) 0 (k + 1) l in let c = ascends k l in omega arith
+  | inr g ↦
+      let n = length-append xs (y ∷ []) in
+      let last : k + 1 ≡ length xs = omega arith in
+      let a = get_or_append_left xs (y ∷ []) 0 k (omega arith) in
+      let b : get_or (xs ++ (y ∷ [])) (k + 1) 0 ≡ y = ap (λ i. get_or (xs ++ (y ∷ [])) i 0) last ∙ get_or-append_seam xs y [] 0 in
+      let c = below (get_or xs k 0) (contains-slice_get xs k (get_or xs k 0) (slice_get-get_or xs k 0 (omega arith))) in
+      omega arith
+]
+
+same-attribute : (a b : AttrId) → a.0 ≡ b.0 → a ≡ b
+same-attribute a b e = λ i. record { 0 = e i }
+
+-- the attributes below a number, found one by one
+module _ (P : ℕ → Type 0) where
+  pub record AreMembers (i : ℕ) (attrs : List AttrId) : Type 0 where
+    pub same : (b : AttrId) → Contains attrs b ↔ ((b.0 < i) × P b.0)
+    pub ascending : IsStrictlyIncreasing (map (λ (b : AttrId). b.0) attrs)
+
+  numbers-below : (attrs : List AttrId) (i : ℕ) → ((b : AttrId) → Contains attrs b → b.0 < i) → (n : ℕ) → Contains (map (λ (b : AttrId). b.0) attrs) n → n < i
+  numbers-below [] i below n m = absurd (omega (arith, m.1))
+  numbers-below (a ∷ attrs) i below n (zero, l, e) = let h = below a (contains-first a attrs) in subst (λ k. k < i) e h
+  numbers-below (a ∷ attrs) i below n (suc k, l, e) = numbers-below attrs i (λ b m. below b (suc m.0, (let q = m.1 in omega arith), m.2)) n (k, (omega arith), e)
+
+  pub members-push : (i : ℕ) (attrs new : List AttrId) (a : AttrId) → AreMembers i attrs → P i → a.0 ≡ i → new ≡ attrs ++ (a ∷ []) → AreMembers (i + 1) new
+  members-push i attrs new a are p e pushed = subst (λ (xs : List AttrId). AreMembers (i + 1) xs) (sym pushed) (record {
+    same = λ b. (
+      (λ m. elim (pushed-contains attrs a b m) [
+        | inl old ↦ let h = (are.same b).0 old in let l = h.0 in ((omega arith), h.1)
+        | inr new ↦ let at = ap (λ (c : AttrId). c.0) new in ((omega arith), subst P (sym e ∙ at) p)
+      ]),
+      (λ h. let l = h.0 in elim (cases_lt b.0 i) [
+        | inl below ↦ Contains-append_left attrs (a ∷ []) b ((are.same b).1 (below, h.1))
+        | inr g ↦ subst (λ (c : AttrId). Contains (attrs ++ (a ∷ [])) c) (same-attribute a b (omega arith)) (contains-pushed attrs a)
+      ]),
+    );
+    ascending = subst (λ (xs : List ℕ). IsStrictlyIncreasing xs) (sym (map-append (λ (b : AttrId). b.0) attrs (a ∷ [])))
+        (increasing-push (map (λ (b : AttrId). b.0) attrs) a.0 are.ascending (λ n m. let h = numbers-below attrs i (λ b q. ((are.same b).0 q).0) n m in omega arith));
+  })
+
+  pub members-skip : (i : ℕ) (attrs new : List AttrId) → AreMembers i attrs → (P i → ⊥) → new ≡ attrs → AreMembers (i + 1) new
+  members-skip i attrs new are none same = subst (λ (xs : List AttrId). AreMembers (i + 1) xs) (sym same) (record {
+    same = λ b. (
+      (λ m. let h = (are.same b).0 m in let l = h.0 in ((omega arith), h.1)),
+      (λ h. let l = h.0 in elim (cases_lt b.0 i) [ inl below ↦ (are.same b).1 (below, h.1) | inr g ↦ absurd (none (let at : b.0 ≡ i = omega arith in subst P at h.1)) ]),
+    );
+    ascending = are.ascending;
+  })
+
+halves : (m : ℕ) → (j : ℕ) × ((m ≡ 2 * j) ⊎ (m ≡ 2 * j + 1))
+halves zero = (0, inl refl)
+halves (suc m) = let h = halves m in elim h.1 [ inl even ↦ (h.0, inr (omega arith)) | inr odd ↦ (suc h.0, inl (omega arith)) ]
+
+module _ (symbols : List FlatSymbol) (rules : List FlatRule) (x : SymId) where
+  -- a class is what one set has more than another
+  pub class-is : (k n set without : ℕ) (attrs : List AttrId) → ArePeeled symbols rules x k without → ArePeeled symbols rules x (k + 1) set → n ≡ length (attrs_of symbols x)
+      → ((a : AttrId) → Contains attrs a ↔ ((a.0 < n) × IsBitSet set a.0 × ¬ IsBitSet without a.0)) → IsStrictlyIncreasing (map (λ (a : AttrId). a.0) attrs) → IsClass symbols rules x k attrs
+  class-is k n set without attrs before after count same ascends = record {
+    same = λ a. (
+      (λ m. let h = (same a).0 m in (subst (λ i. IsPeeled symbols rules x i a) next ((after a).1 h.1), λ p. h.2 ((before a).0 p))),
+      (λ h. (same a).1 ((let b = attribute-below symbols rules x a (peeled-attribute symbols rules x (suc k) a h.0) in omega arith), (after a).0 (subst (λ i. IsPeeled symbols rules x i a) (sym next) h.0), λ bit. h.1 ((before a).1 bit))),
+    );
+    ascending = ascends;
+  }
+    where
+      next : k + 1 ≡ suc k
+      next = omega arith
+
+  pub visit-is : (n : ℕ) (levels : Levels) (synthesized inherited : List AttrId) → n ≡ length (attrs_of symbols x)
+      → ((a : AttrId) → Contains synthesized a ↔ ((a.0 < n) × IsBitSet levels.synthesized a.0 × ¬ IsBitSet levels.later a.0)) → IsStrictlyIncreasing (map (λ (a : AttrId). a.0) synthesized)
+      → ((a : AttrId) → Contains inherited a ↔ ((a.0 < n) × IsBitSet levels.both a.0 × ¬ IsBitSet levels.synthesized a.0)) → IsStrictlyIncreasing (map (λ (a : AttrId). a.0) inherited)
+      → (j : ℕ) → AreLevels symbols rules x j levels → IsClass symbols rules x (2 * j) synthesized × IsClass symbols rules x (2 * j + 1) inherited
+  visit-is n levels synthesized inherited count same ascends same' ascends' j are = (
+    class-is (2 * j) n levels.synthesized levels.later synthesized are.later are.synthesized count same ascends,
+    class-is (2 * j + 1) n levels.both levels.synthesized inherited are.synthesized (let e : 2 * j + 2 ≡ 2 * j + 1 + 1 = omega arith in subst (λ k. ArePeeled symbols rules x k levels.both) e are.both) count same' ascends',
+  )
+
+  pub classes-push : (visits new : List VisitClass) (i : ℕ) (visit : VisitClass) → length visits ≡ i → new ≡ visits ++ (visit ∷ [])
+      → IsClass symbols rules x (2 * i) visit.synthesized × IsClass symbols rules x (2 * i + 1) visit.inherited
+      → ((k : ℕ) (v : VisitClass) → slice_get visits k ≡ Some v → IsClass symbols rules x (2 * k) v.synthesized × IsClass symbols rules x (2 * k + 1) v.inherited)
+      → (k : ℕ) (v : VisitClass) → slice_get new k ≡ Some v → IsClass symbols rules x (2 * k) v.synthesized × IsClass symbols rules x (2 * k + 1) v.inherited
+  classes-push visits new i visit count pushed last before k v at = elim (pushed-get visits visit k v (subst (λ (xs : List VisitClass). slice_get xs k ≡ Some v) pushed at)) [
+    | inl old ↦ before k v old
+    | inr here ↦ subst (λ (w : VisitClass). IsClass symbols rules x (2 * k) w.synthesized × IsClass symbols rules x (2 * k + 1) w.inherited) here.1
+        (let e : i ≡ k = sym count ∙ sym here.0 in subst (λ j. IsClass symbols rules x (2 * j) visit.synthesized × IsClass symbols rules x (2 * j + 1) visit.inherited) e last)
+  ]
+
+  module _ (all : List Levels) (each : AreAllLevels symbols rules x all) (last : IsLast symbols rules x (2 * length all)) (one : 0 < length all) where
+    -- the sets say which attributes are in later classes
+    pub past-is : (a b : AttrId) → IsSome (attribute_at symbols x a) → IsPastAmong all a.0 b.0 ↔ IsEarlier symbols rules x a b
+    past-is a b some = (to, from)
+      where
+        earlier : (k set : ℕ) → ArePeeled symbols rules x k set → IsBitSet set b.0 × ¬ IsBitSet set a.0 → IsEarlier symbols rules x a b
+        earlier k set are h = (some, k, (are b).1 h.0, λ p. h.1 ((are a).0 p))
+
+        to : IsPastAmong all a.0 b.0 → IsEarlier symbols rules x a b
+        to (j, levels, at, inl h) = earlier (2 * j) levels.later (each j levels at).later h
+        to (j, levels, at, inr (inl h)) = earlier (2 * j + 1) levels.synthesized (each j levels at).synthesized h
+        to (j, levels, at, inr (inr h)) = earlier (2 * j + 2) levels.both (each j levels at).both h
+
+        by : (k set : ℕ) → ArePeeled symbols rules x k set → IsPeeled symbols rules x k b → ¬ IsPeeled symbols rules x k a → IsBitSet set b.0 × ¬ IsBitSet set a.0
+        by k set are p n = ((are b).0 p, λ bit. n ((are a).1 bit))
+
+        at_level : (k j : ℕ) → j < length all → (k ≡ 2 * j) ⊎ (k ≡ 2 * j + 1) → IsPeeled symbols rules x k b → ¬ IsPeeled symbols rules x k a → IsPastAmong all a.0 b.0
+        at_level k j l (inl e) p n = let got = get-below all j l in
+            (j, got.0, got.1, inl (by (2 * j) got.0.later (each j got.0 got.1).later (subst (λ i. IsPeeled symbols rules x i b) e p) (λ q. n (subst (λ i. IsPeeled symbols rules x i a) (sym e) q))))
+        at_level k j l (inr e) p n = let got = get-below all j l in
+            (j, got.0, got.1, inr (inl (by (2 * j + 1) got.0.synthesized (each j got.0 got.1).synthesized (subst (λ i. IsPeeled symbols rules x i b) e p) (λ q. n (subst (λ i. IsPeeled symbols rules x i a) (sym e) q)))))
+
+        from : IsEarlier symbols rules x a b → IsPastAmong all a.0 b.0
+        from (_, k, p, n) = elim (cases_lt k (2 * length all)) [
+          | inl l ↦ let h = halves k in at_level k h.0 (elim h.1 [ inl e ↦ omega arith | inr e ↦ omega arith ]) h.1 p n
+          | inr g ↦
+              let j = length all - 1 in
+              let got = get-below all j (omega arith) in
+              let e : 2 * length all ≡ 2 * j + 2 = omega arith in
+              (j, got.0, got.1, inr (inr (by (2 * j + 2) got.0.both (each j got.0 got.1).both (subst (λ i. IsPeeled symbols rules x i b) e (last k b p)) (λ q. n (IsPeeled-grows symbols rules x k (2 * j + 2) a (omega arith) q)))))
+        ]

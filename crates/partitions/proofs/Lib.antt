@@ -1,0 +1,12 @@
+pub mod BitsLemmas
+pub mod PeelingLemmas
+pub mod ClassesLemmas
+pub mod SymbolsLemmas
+pub mod SearchLemmas
+pub mod CycleLemmas
+pub mod ReadsLemmas
+pub mod VerticesLemmas
+pub mod EdgesLemmas
+pub mod ExtendedLemmas
+pub mod StepsLemmas
+pub mod RankedLemmas

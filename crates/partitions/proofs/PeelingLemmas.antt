@@ -1,0 +1,252 @@
+-- Sets of a symbol's attributes as bits: one class more, one pair of classes more, no more ever.
+use Rattle.std.specs.Prelude.{IsBitSet, Contains, slice_get, All, IsSome, ◌*◌, option_and_then}
+use Rattle.std.proofs.Common.{◌≡◌, ℕ, zero, suc, ◌+◌, ◌<◌, ◌≤◌, ◌⊎◌, inl, inr, ◌↔◌, List, [], ◌∷◌, ◌++◌, length, Option, Some, None, get_or, refl, sym, ap, subst, ◌∙◌, arith}
+use Rattle.std.proofs.lemmas.Option.{none-some, slice_get-get_or}
+use Rattle.std.proofs.lemmas.Bool.{cases_lt}
+use Rattle.lido_base.specs.declared.ids.SymId.{SymId}
+use Rattle.lido_base.specs.declared.ids.AttrId.{AttrId}
+use Rattle.lido_base.specs.declared.kinds.Kind.{Kind}
+use Rattle.lido_base.specs.declared.kinds.Kind.TheVariants.{Synthesized, Inherited}
+use Rattle.flat_grammar.specs.declared.flat.FlatSymbol.{FlatSymbol}
+use Rattle.flat_grammar.specs.declared.flat.FlatAttr.{FlatAttr}
+use Rattle.flat_grammar.specs.declared.flat.FlatRule.{FlatRule}
+use Rattle.flat_grammar.specs.Rules.{attribute_at, attrs_of}
+use Rattle.flat_grammar.specs.Dependencies.{IDS}
+use Rattle.flat_grammar.specs.Partition.{IsPeeled, HasKind, IsClosedSet, kind_of_class, PeelsAll}
+use Rattle.flat_grammar.proofs.Lists.{contains-nil, contains-cons, contains-first, contains-later, held}
+use Rattle.partitions.specs.declared.peeling.Levels.{Levels}
+use Rattle.partitions.specs.Peeling.{AreRows, ArePeeled, AreLevels, AreAllLevels, IsLast, IsKept}
+use Rattle.partitions.proofs.BitsLemmas.{is-set, empty-set, within-le}
+
+-- A set of the numbers below i with a property, found one by one.
+module _ (P : ℕ → Type 0) where
+  pub record IsFound (i set : ℕ) : Type 0 where
+    pub to : (j : ℕ) → IsBitSet set j → (j < i) × P j
+    pub from : (j : ℕ) → j < i → P j → IsBitSet set j
+
+  pub found-none : IsFound 0 0
+  found-none = record { to = λ j h. absurd (empty-set j h); from = λ j h p. absurd (omega arith) }
+
+  pub found-one : (i set new : ℕ) → IsFound i set → ((j : ℕ) → IsBitSet new j ↔ ((j ≡ i) ⊎ IsBitSet set j)) → P i → IsFound (i + 1) new
+  found-one i set new f e p = record {
+    to = λ j h. elim ((e j).0 h) [ inl same ↦ ((omega arith), subst P (sym same) p) | inr old ↦ let b = (f.to j old).0 in ((omega arith), (f.to j old).1) ];
+    from = λ j h q. elim (cases_lt j i) [ inl l ↦ (e j).1 (inr (f.from j l q)) | inr g ↦ (e j).1 (inl (omega arith)) ];
+  }
+
+  pub found-not : (i set : ℕ) → IsFound i set → (P i → ⊥) → IsFound (i + 1) set
+  found-not i set f none = record {
+    to = λ j h. let b = (f.to j h).0 in ((omega arith), (f.to j h).1);
+    from = λ j h q. elim (cases_lt j i) [ inl l ↦ f.from j l q | inr g ↦ absurd (none (let same : j ≡ i = omega arith in subst P same q)) ];
+  }
+
+  pub found-all : (n set : ℕ) → IsFound n set → ((j : ℕ) → P j → j < n) → (j : ℕ) → IsBitSet set j ↔ P j
+  found-all n set f bound j = (λ h. (f.to j h).1, λ p. f.from j (bound j p) p)
+
+-- the members of a set below n, as a list of attributes
+members : ℕ → ℕ → List AttrId
+members set zero = []
+members set (suc n) = elim (is-set set n) [ inl h ↦ record { 0 = n } ∷ members set n | inr h ↦ members set n ]
+
+in-members : (set n : ℕ) (a : AttrId) → a.0 < n → IsBitSet set a.0 → Contains (members set n) a
+unfolding members
+in-members set zero a l h = absurd (omega arith)
+in-members set (suc n) a l h = go (is-set set n) (cases_lt a.0 n) (λ below. in-members set n a below h)
+  where
+    go : (d : IsBitSet set n ⊎ (IsBitSet set n → ⊥)) → (a.0 < n) ⊎ (n ≤ a.0) → (a.0 < n → Contains (members set n) a) → Contains (elim d [ inl h ↦ record { 0 = n } ∷ members set n | inr h ↦ members set n ]) a
+    go (inl s) (inl below) rest = contains-later _ a (members set n) (rest below)
+    go (inl s) (inr at) rest = let same : n ≡ a.0 = omega arith in subst (λ k. Contains (record { 0 = k } ∷ members set n) a) (sym same) (contains-first a (members set n))
+    go (inr s) (inl below) rest = rest below
+    go (inr s) (inr at) rest = absurd (s (let same : a.0 ≡ n = omega arith in subst (λ k. IsBitSet set k) same h))
+
+of-members : (set n : ℕ) (a : AttrId) → Contains (members set n) a → IsBitSet set a.0
+unfolding members
+of-members set zero a m = absurd (contains-nil a m)
+of-members set (suc n) a m = go (is-set set n) m (of-members set n a)
+  where
+    go : (d : IsBitSet set n ⊎ (IsBitSet set n → ⊥)) → Contains (elim d [ inl h ↦ record { 0 = n } ∷ members set n | inr h ↦ members set n ]) a → (Contains (members set n) a → IsBitSet set a.0) → IsBitSet set a.0
+    go (inl s) m rest = elim (contains-cons _ a (members set n) m) [ inl e ↦ subst (λ (b : AttrId). IsBitSet set b.0) e s | inr later ↦ rest later ]
+    go (inr s) m rest = rest m
+
+pub get-below : {X : Type 0} (xs : List X) (k : ℕ) → k < length xs → (x : X) × (slice_get xs k ≡ Some x)
+get-below [] k h = absurd (omega arith)
+get-below (x ∷ xs) zero h = (x, refl)
+get-below (x ∷ xs) (suc k) h = get-below xs k (omega arith)
+
+-- what stands at a place of a list with one more item
+pub pushed-get : {X : Type 0} (xs : List X) (y : X) (j : ℕ) (z : X) → slice_get (xs ++ (y ∷ [])) j ≡ Some z → (slice_get xs j ≡ Some z) ⊎ ((j ≡ length xs) × (y ≡ z))
+pushed-get [] y zero z e = inr (refl, held e)
+pushed-get [] y (suc j) z e = absurd (none-some _ e)
+pushed-get (x ∷ xs) y zero z e = inl e
+pushed-get (x ∷ xs) y (suc j) z e = elim (pushed-get xs y j z e) [ inl old ↦ inl old | inr new ↦ let d = new.0 in inr ((omega arith), new.1) ]
+
+pub below-length : {X : Type 0} (xs : List X) (k : ℕ) (x : X) → slice_get xs k ≡ Some x → k < length xs
+below-length [] k x e = absurd (none-some _ e)
+below-length (y ∷ xs) zero x e = omega arith
+below-length (y ∷ xs) (suc k) x e = let p = below-length xs k x e in omega arith
+
+module _ (symbols : List FlatSymbol) where
+  pub attribute-get : (x : SymId) (a : AttrId) → attribute_at symbols x a ≡ slice_get (attrs_of symbols x) a.0
+  attribute-get x a = go (slice_get symbols x.0)
+    where
+      go : (o : Option FlatSymbol) → option_and_then (λ (s : FlatSymbol). slice_get s.attrs a.0) o ≡ slice_get (elim o [ None ↦ [] | Some s ↦ s.attrs ]) a.0
+      go None = refl
+      go (Some s) = refl
+
+  pub attributes-few : (x : SymId) → All (λ (s : FlatSymbol). length s.attrs ≤ 128) symbols → length (attrs_of symbols x) ≤ 128
+  attributes-few x few = go (slice_get symbols x.0) refl
+    where
+      at : (ys : List FlatSymbol) (k : ℕ) (s : FlatSymbol) → slice_get ys k ≡ Some s → All (λ (s : FlatSymbol). length s.attrs ≤ 128) ys → length s.attrs ≤ 128
+      at [] k s e h = absurd (none-some _ e)
+      at (y ∷ ys) zero s e h = subst (λ (t : FlatSymbol). length t.attrs ≤ 128) (held e) (h 0 y (omega arith))
+      at (y ∷ ys) (suc k) s e h = at ys k s e (λ i d l. h (suc i) d (omega arith))
+
+      go : (o : Option FlatSymbol) → slice_get symbols x.0 ≡ o → length {A = FlatAttr} (elim o [ None ↦ [] | Some s ↦ s.attrs ]) ≤ 128
+      go None e = omega arith
+      go (Some s) e = at symbols x.0 s e few
+
+pub even-kind : (j : ℕ) → kind_of_class (2 * j) ≡ Synthesized
+even-kind zero = refl
+even-kind (suc j) = let e : 2 * suc j ≡ suc (suc (2 * j)) = omega arith in subst (λ k. kind_of_class k ≡ Synthesized) (sym e) (even-kind j)
+
+pub odd-kind : (j : ℕ) → kind_of_class (suc (2 * j)) ≡ Inherited
+odd-kind zero = refl
+odd-kind (suc j) = let e : suc (2 * suc j) ≡ suc (suc (suc (2 * j))) = omega arith in subst (λ k. kind_of_class k ≡ Inherited) (sym e) (odd-kind j)
+
+module _ (symbols : List FlatSymbol) (rules : List FlatRule) (x : SymId) where
+  has-attribute : (kind : Kind) (a : AttrId) → HasKind symbols rules x kind a → IsSome (attribute_at symbols x a)
+  has-attribute kind a h = subst (λ (o : Option FlatAttr). IsSome o) (sym h.1) refl
+
+  pub peeled-attribute : (k : ℕ) (a : AttrId) → IsPeeled symbols rules x k a → IsSome (attribute_at symbols x a)
+  peeled-attribute zero a h = absurd h
+  peeled-attribute (suc k) a (inl h) = peeled-attribute k a h
+  peeled-attribute (suc k) a (inr (set, m, closed)) = has-attribute (kind_of_class k) a (closed a m).0
+
+  pub attribute-below : (a : AttrId) → IsSome (attribute_at symbols x a) → a.0 < length (attrs_of symbols x)
+  attribute-below a h = go (slice_get (attrs_of symbols x) a.0) refl (subst (λ (o : Option FlatAttr). IsSome o) (attribute-get symbols x a) h)
+    where
+      go : (o : Option FlatAttr) → slice_get (attrs_of symbols x) a.0 ≡ o → IsSome o → a.0 < length (attrs_of symbols x)
+      go None e h = absurd (cc)
+      go (Some attr) e h = below-length (attrs_of symbols x) a.0 attr e
+
+  pub attribute-some : (a : AttrId) → a.0 < length (attrs_of symbols x) → IsSome (attribute_at symbols x a)
+  attribute-some a h = let got = get-below (attrs_of symbols x) a.0 h in subst (λ (o : Option FlatAttr). IsSome o) (sym (attribute-get symbols x a ∙ got.1)) refl
+
+  -- a closed set stays closed where more is peeled
+  pub closed-more : (P Q : AttrId → Type 0) (kind : Kind) (set : List AttrId) → ((a : AttrId) → P a → Q a) → IsClosedSet symbols rules x P kind set → IsClosedSet symbols rules x Q kind set
+  closed-more P Q kind set more closed a m = ((closed a m).0, λ b d. elim ((closed a m).1 b d) [ inl p ↦ inl (more b p) | inr q ↦ inr q ])
+
+  module _ (few : length (attrs_of symbols x) ≤ 128) where
+    -- one class more
+    pub class-step : (kind : Kind) (k peeled set result : ℕ) → kind_of_class k ≡ kind → ArePeeled symbols rules x k peeled
+        → ((a : AttrId) → IsBitSet set a.0 → HasKind symbols rules x kind a × ((b : AttrId) → IDS rules x a b → IsBitSet peeled b.0 ⊎ IsBitSet set b.0))
+        → ((xs : List AttrId) → IsClosedSet symbols rules x (λ b. IsBitSet peeled b.0) kind xs → (a : AttrId) → Contains xs a → IsBitSet set a.0)
+        → ((j : ℕ) → IsBitSet result j ↔ (IsBitSet peeled j ⊎ IsBitSet set j)) → ArePeeled symbols rules x (suc k) result
+    class-step kind k peeled set result e old closed greatest union a = (to, from)
+      where
+        to : IsPeeled symbols rules x (suc k) a → IsBitSet result a.0
+        to (inl p) = (union a.0).1 (inl ((old a).0 p))
+        to (inr (xs, m, c)) = (union a.0).1 (inr (greatest xs (subst (λ z. IsClosedSet symbols rules x (λ b. IsBitSet peeled b.0) z xs) e
+            (closed-more (IsPeeled symbols rules x k) (λ b. IsBitSet peeled b.0) (kind_of_class k) xs (λ b p. (old b).0 p) c)) a m))
+
+        inside : (b : AttrId) → IsBitSet set b.0 → Contains (members set 128) b
+        inside b h = in-members set 128 b (let l = attribute-below b (has-attribute kind b (closed b h).0) in omega arith) h
+
+        from : IsBitSet result a.0 → IsPeeled symbols rules x (suc k) a
+        from h = elim ((union a.0).0 h) [
+          | inl p ↦ inl ((old a).1 p)
+          | inr s ↦ inr (
+            members set 128,
+            inside a s,
+            λ b m. let c = closed b (of-members set 128 b m) in
+                (subst (λ z. HasKind symbols rules x z b) (sym e) c.0, λ d i. elim (c.1 d i) [ inl p ↦ inl ((old d).1 p) | inr q ↦ inr (inside d q) ]),
+          )
+        ]
+
+  -- each closed set lies within what is kept of a set that it lies within
+  pub kept-greatest : (rows : List ℕ) (kind : Kind) (peeled old new : ℕ) → AreRows symbols rules x rows → ((j : ℕ) → IsBitSet new j ↔ IsKept rows old peeled j)
+      → ((xs : List AttrId) → IsClosedSet symbols rules x (λ b. IsBitSet peeled b.0) kind xs → (a : AttrId) → Contains xs a → IsBitSet old a.0)
+      → (xs : List AttrId) → IsClosedSet symbols rules x (λ b. IsBitSet peeled b.0) kind xs → (a : AttrId) → Contains xs a → IsBitSet new a.0
+  kept-greatest rows kind peeled old new are kept greatest xs closed a m =
+      let below = attribute-below a (has-attribute kind a (closed a m).0) in
+      let each = are.each in
+      let got = get-below rows a.0 (omega arith) in
+      (kept a.0).1 (greatest xs closed a m, got.0, got.1, λ b bit. let d : AttrId = record { 0 = b } in elim ((closed a m).1 d ((are.bits a d got.0 got.1).0 bit)) [ inl p ↦ inl p | inr q ↦ inr (greatest xs closed d q) ])
+
+  -- one pair of classes more
+  pub levels-step : (j : ℕ) (levels : Levels) → ArePeeled symbols rules x (2 * j) levels.later → (kind_of_class (2 * j) ≡ Synthesized → ArePeeled symbols rules x (suc (2 * j)) levels.synthesized)
+      → (kind_of_class (suc (2 * j)) ≡ Inherited → ArePeeled symbols rules x (suc (2 * j)) levels.synthesized → ArePeeled symbols rules x (suc (suc (2 * j))) levels.both) → AreLevels symbols rules x j levels
+  levels-step j levels later synthesized both =
+      let first : suc (2 * j) ≡ 2 * j + 1 = omega arith in
+      let second : suc (suc (2 * j)) ≡ 2 * j + 2 = omega arith in
+      record {
+        later = later;
+        synthesized = subst (λ k. ArePeeled symbols rules x k levels.synthesized) first (synthesized (even-kind j));
+        both = subst (λ k. ArePeeled symbols rules x k levels.both) second (both (odd-kind j) (synthesized (even-kind j)));
+      }
+
+  -- a pair of classes without attributes is the last
+  pub last-pair : (n : ℕ) → ((a : AttrId) → IsPeeled symbols rules x (suc (suc (2 * n))) a → IsPeeled symbols rules x (2 * n) a) → IsLast symbols rules x (2 * n)
+  last-pair n stays k a h = up k a h
+    where
+      one : (kind : Kind) (xs : List AttrId) → IsClosedSet symbols rules x (IsPeeled symbols rules x (2 * n)) kind xs → (a : AttrId) → Contains xs a → IsPeeled symbols rules x (2 * n) a
+      one Synthesized xs c a m = stays a (inl (inr (xs, m, subst (λ kind. IsClosedSet symbols rules x (IsPeeled symbols rules x (2 * n)) kind xs) (sym (even-kind n)) c)))
+      one Inherited xs c a m = stays a (inr (
+        xs,
+        m,
+        subst (λ kind. IsClosedSet symbols rules x (IsPeeled symbols rules x (suc (2 * n))) kind xs) (sym (odd-kind n))
+            (closed-more (IsPeeled symbols rules x (2 * n)) (IsPeeled symbols rules x (suc (2 * n))) Inherited xs (λ b p. inl p) c),
+      ))
+
+      up : (k : ℕ) (a : AttrId) → IsPeeled symbols rules x k a → IsPeeled symbols rules x (2 * n) a
+      up zero a h = absurd h
+      up (suc k) a (inl h) = up k a h
+      up (suc k) a (inr (xs, m, c)) = one (kind_of_class k) xs (closed-more (IsPeeled symbols rules x k) (IsPeeled symbols rules x (2 * n)) (kind_of_class k) xs (up k) c) a m
+
+  pub last-levels : (n : ℕ) (levels : Levels) → AreLevels symbols rules x n levels → levels.both ≡ levels.later → IsLast symbols rules x (2 * n)
+  last-levels n levels are same = last-pair n (λ a h. (are.later a).1 (subst (λ set. IsBitSet set a.0) same ((are.both a).0 (let e : suc (suc (2 * n)) ≡ 2 * n + 2 = omega arith in subst (λ k. IsPeeled symbols rules x k a) e h))))
+
+  -- where a pair of classes has attributes, not all were peeled before it
+  pub not-all : (n : ℕ) (levels : Levels) → AreLevels symbols rules x n levels → levels.later ≤ levels.both → (levels.both ≡ levels.later → ⊥) → PeelsAll symbols rules x (2 * n) → ⊥
+  not-all n levels are grows other all = other (let p = within-le levels.both levels.later (λ j h. let a : AttrId = record { 0 = j } in (are.later a).0 (all a (peeled-attribute (2 * n + 2) a ((are.both a).1 h)))) in omega arith)
+
+  pub nothing-peeled : ArePeeled symbols rules x (2 * 0) 0
+  nothing-peeled a = (λ h. absurd h, λ h. absurd (empty-set a.0 h))
+
+  pub next-level : (n : ℕ) (set : ℕ) → ArePeeled symbols rules x (2 * n + 2) set → ArePeeled symbols rules x (2 * (n + 1)) set
+  next-level n set are = let e : 2 * n + 2 ≡ 2 * (n + 1) = omega arith in subst (λ k. ArePeeled symbols rules x k set) e are
+
+  pub fewest-step : (n m : ℕ) (levels : Levels) → AreLevels symbols rules x n levels → levels.later ≤ levels.both → (levels.both ≡ levels.later → ⊥) → m ≡ n + 1
+      → ((k : ℕ) → 0 < k → k < n → PeelsAll symbols rules x (2 * k) → ⊥) → (k : ℕ) → 0 < k → k < m → PeelsAll symbols rules x (2 * k) → ⊥
+  fewest-step n m levels are grows other e before k positive below all = elim (cases_lt k n) [
+    | inl l ↦ before k positive l all
+    | inr g ↦ not-all n levels are grows other (let same : k ≡ n = omega arith in subst (λ i. PeelsAll symbols rules x (2 * i)) same all)
+  ]
+
+  pub levels-push : (all new : List Levels) (n : ℕ) (levels : Levels) → AreAllLevels symbols rules x all → n ≡ length all → AreLevels symbols rules x n levels → new ≡ all ++ (levels ∷ []) → AreAllLevels symbols rules x new
+  levels-push all new n levels each e are pushed j found at = go (pushed-get all levels j found (subst (λ (xs : List Levels). slice_get xs j ≡ Some found) pushed at))
+    where
+      go : (slice_get all j ≡ Some found) ⊎ ((j ≡ length all) × (levels ≡ found)) → AreLevels symbols rules x j found
+      go (inl old) = each j found old
+      go (inr new) = subst (λ (l : Levels). AreLevels symbols rules x j l) new.1 (let same : n ≡ j = omega (arith, new.0) in subst (λ i. AreLevels symbols rules x i levels) same are)
+
+  -- the attribute at a place has the kind
+  pub kind-at : (kind : Kind) (attrs : List FlatAttr) (i : ℕ) (d : FlatAttr) → attrs ≡ attrs_of symbols x → i < length attrs → (get_or attrs i d).kind ≡ kind → HasKind symbols rules x kind (record { 0 = i })
+  kind-at kind attrs i d e h k = (get_or attrs i d, attribute-get symbols x (record { 0 = i }) ∙ ap (λ (xs : List FlatAttr). slice_get xs i) (sym e) ∙ slice_get-get_or attrs i d h, k)
+
+  pub kind-of : (kind : Kind) (attrs : List FlatAttr) (i : ℕ) (d : FlatAttr) → attrs ≡ attrs_of symbols x → i < length attrs → HasKind symbols rules x kind (record { 0 = i }) → (get_or attrs i d).kind ≡ kind
+  kind-of kind attrs i d e h (attr, at, k) =
+      let same : get_or attrs i d ≡ attr = held (sym (slice_get-get_or attrs i d h) ∙ ap (λ (xs : List FlatAttr). slice_get xs i) e ∙ sym (attribute-get symbols x (record { 0 = i })) ∙ at) in
+      ap (λ (a : FlatAttr). a.kind) same ∙ k
+
+  pub kind-below : (kind : Kind) (attrs : List FlatAttr) → attrs ≡ attrs_of symbols x → (j : ℕ) → HasKind symbols rules x kind (record { 0 = j }) → j < length attrs
+  kind-below kind attrs e j h = subst (λ (xs : List FlatAttr). j < length xs) (sym e) (attribute-below (record { 0 = j }) (has-attribute kind (record { 0 = j }) h))
+
+-- the row at a place is kept
+pub kept-at : (rows : List ℕ) (set allowed i d : ℕ) → i < length rows → IsBitSet set i → ((b : ℕ) → IsBitSet (get_or rows i d) b → IsBitSet allowed b ⊎ IsBitSet set b) → IsKept rows set allowed i
+kept-at rows set allowed i d h bit within = (bit, get_or rows i d, slice_get-get_or rows i d h, within)
+
+pub kept-of : (rows : List ℕ) (set allowed i d : ℕ) → i < length rows → IsKept rows set allowed i → IsBitSet set i × ((b : ℕ) → IsBitSet (get_or rows i d) b → IsBitSet allowed b ⊎ IsBitSet set b)
+kept-of rows set allowed i d h (bit, row, at, within) = (bit, λ b in_row. within b (subst (λ r. IsBitSet r b) (held (sym (slice_get-get_or rows i d h) ∙ at)) in_row))
+
+pub kept-below : (rows : List ℕ) (set allowed j : ℕ) → IsKept rows set allowed j → j < length rows
+kept-below rows set allowed j (bit, row, at, within) = below-length rows j row at

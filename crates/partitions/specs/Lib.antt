@@ -1,0 +1,7 @@
+pub mod Peeling
+pub mod Symbols
+pub mod Graph
+pub mod Search
+pub mod Reads
+pub mod RuleGraph
+pub mod Parts

@@ -1,0 +1,7 @@
+pub mod ClosedWalks
+pub mod Classes
+pub mod Occurrences
+pub mod Progress
+pub mod Soundness
+pub mod Rows
+pub mod Plan

@@ -1,7 +1,13 @@
 pub mod ClosedWalks
 pub mod Classes
 pub mod Occurrences
-pub mod Progress
+pub mod ProgressLemmas
 pub mod Soundness
-pub mod Rows
-pub mod Plan
+pub mod RowLemmas
+pub mod PlanLemmas
+pub mod BitsLemmas
+pub mod ExpressionLemmas
+pub mod GoalLemmas
+pub mod StepLemmas
+pub mod TakeLemmas
+pub mod ChoiceLemmas

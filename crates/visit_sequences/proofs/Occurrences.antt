@@ -149,7 +149,7 @@ module _ (symbols : List FlatSymbol) where
       Joins-attribute among (edge e) = IDP-attribute among e
       Joins-attribute among (further e more) = IDP-attribute among e
 
-      IDS-attribute : {x : SymId} {a b : AttrId} → IDS rules x a b → IsSome (attribute_at symbols x a)
+      pub IDS-attribute : {x : SymId} {a b : AttrId} → IDS rules x a b → IsSome (attribute_at symbols x a)
       IDS-attribute {x} (joined {r = q} {u = u} among path same at) = sym (ap is_some (attribute-is q u x at)) ∙ Joins-attribute among path
 
     -- an edge begins at an attribute occurrence

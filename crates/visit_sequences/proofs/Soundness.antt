@@ -28,7 +28,7 @@ use Rattle.flat_grammar.proofs.Lists.{held}
 use Rattle.visit_sequences.proofs.ClosedWalks.{all-from_each}
 use Rattle.visit_sequences.proofs.Classes.{row-there, inherited-kind}
 use Rattle.visit_sequences.proofs.Occurrences.{rule-is, goal-attribute, right-goal}
-use Rattle.visit_sequences.proofs.Progress.{evaluated-or, evaluated_all-or, row-at, class-done, all-done}
+use Rattle.visit_sequences.proofs.ProgressLemmas.{evaluated-or, evaluated_all-or, row-at, class-done, all-done}
 
 pub leaves-append : (xs ys : List PlanItem) → count_by is_leave (xs ++ ys) ≡ count_by is_leave xs + count_by is_leave ys
 leaves-append xs ys = sum_by-append (λ x. cond (is_leave x) 1 0) xs ys

@@ -8,7 +8,7 @@ use Rattle.flat_grammar.specs.declared.flat.FlatRule.{FlatRule}
 use Rattle.flat_grammar.specs.declared.flat.Shape.{Shape}
 use Rattle.flat_grammar.specs.declared.plan.PlanItem.{PlanItem}
 use Rattle.flat_grammar.specs.declared.plan.VisitClass.{VisitClass}
-use Rattle.visit_sequences.proofs.Plan.{plan-sound}
+use Rattle.visit_sequences.proofs.PlanLemmas.{plan-sound}
 use Rattle.visit_sequences.proofs.laws.constructed_plan_is_sound.Goals as goal
 
 pub returns : goal.returns

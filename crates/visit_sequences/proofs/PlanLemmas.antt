@@ -16,7 +16,7 @@ use Rattle.flat_grammar.specs.SoundPlan.{IsSound, IsSoundSequence}
 use Rattle.flat_grammar.specs.Construction.{IsConstructed, AreConstructed}
 use Rattle.flat_grammar.proofs.Lists.{contains-first, contains-later}
 use Rattle.visit_sequences.proofs.Soundness.{constructed-sound}
-use Rattle.visit_sequences.proofs.Rows.{rows-right}
+use Rattle.visit_sequences.proofs.RowLemmas.{rows-right}
 
 zip-length : {A B : Type 0} (R : A → B → Type 0) (xs : List A) (ys : List B) → AllZip R xs ys → length ys ≡ length xs
 zip-length R [] [] h = Rattle.std.proofs.Common.refl

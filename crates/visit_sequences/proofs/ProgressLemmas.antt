@@ -31,12 +31,12 @@ use Rattle.visit_sequences.proofs.Classes.{contains-or, some-is, value_in, attri
 use Rattle.visit_sequences.proofs.Occurrences.{symbol-there, attribute-is, vertices, vertex-there, goal-attribute, left-goal, right-goal, edge-attribute}
 
 -- what an evaluation evaluates
-abbrev evaluated-by : PlanItem → Occ → Occ
+abbrev pub evaluated-by : PlanItem → Occ → Occ
 evaluated-by (Eval p) o = p
 evaluated-by (Visit k v) o = o
 evaluated-by (Leave v) o = o
 
-abbrev is_evaluation : PlanItem → Bool
+abbrev pub is_evaluation : PlanItem → Bool
 is_evaluation (Eval p) = true
 is_evaluation (Visit k v) = false
 is_evaluation (Leave v) = false
@@ -66,7 +66,7 @@ module _ (before : List PlanItem) (k : ℕ) where
 module _ (symbols : List FlatSymbol) (rules : List FlatRule) (shapes : List Shape) (root : SymId) (w : IsWellFormed symbols rules shapes root)
     (visits : List (List VisitClass)) (all : AreAllVisits symbols rules visits) (r : FlatRule) (among : Contains rules r) where
   -- of two attributes of an occurrence, the one of an earlier class has an edge to the other
-  edge-between : (u v : Occ) (x : SymId) → u.occ ≡ v.occ → symbol_at r u.occ ≡ Some x → IsEarlier symbols rules x u.attr v.attr → ((label : Label) → EDP symbols rules r u v label → ⊥) → ⊥
+  pub edge-between : (u v : Occ) (x : SymId) → u.occ ≡ v.occ → symbol_at r u.occ ≡ Some x → IsEarlier symbols rules x u.attr v.attr → ((label : Label) → EDP symbols rules r u v label → ⊥) → ⊥
   edge-between u v x same at e none =
       let not_direct : DP r u v → ⊥ = λ d. none Direct (direct d) in
       let not_induced : IDS rules x u.attr v.attr → ⊥ = λ i. none Induced (induced not_direct same at i) in

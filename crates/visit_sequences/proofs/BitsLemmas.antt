@@ -80,11 +80,13 @@ pub members-step : (attrs : List AttrId) (i : ℕ) (d : AttrId) (old new : ℕ) 
     → ((j : ℕ) → IsBitSet new j ↔ (((j ≡ (get_or attrs i d).0) × (j < 128)) ⊎ IsBitSet old j)) → HasTaken attrs (i + 1) new
 members-step attrs i d old new h inv step a = (
   (λ bit. elim ((step a.0).0 bit) [
-      inl here ↦ (here.1, subst (λ x. Contains (take (i + 1) attrs) x) (λ k. record { 0 = sym here.0 k }) (taken-here attrs i d h))
-    | inr old-bit ↦ (let p = (inv a).0 old-bit in (p.0, taken-more attrs i d a h p.1)) ]),
+    | inl here ↦ (here.1, subst (λ x. Contains (take (i + 1) attrs) x) (λ k. record { 0 = sym here.0 k }) (taken-here attrs i d h))
+    | inr old-bit ↦ (let p = (inv a).0 old-bit in (p.0, taken-more attrs i d a h p.1))
+  ]),
   (λ p. (step a.0).1 (elim (taken-cases attrs i d a h p.1) [
-      inl before ↦ inr ((inv a).1 (p.0, before))
-    | inr e ↦ inl (sym (ap (λ (x : AttrId). x.0) e), p.0) ])),
+    | inl before ↦ inr ((inv a).1 (p.0, before))
+    | inr e ↦ inl (sym (ap (λ (x : AttrId). x.0) e), p.0)
+  ])),
 )
 
 pub members-all : (attrs : List AttrId) (i : ℕ) (set : ℕ) → length attrs ≤ i → HasTaken attrs i set → (a : AttrId) → IsBitSet set a.0 ↔ ((a.0 < 128) × Contains attrs a)
@@ -97,17 +99,20 @@ IsFound P i set = (j : ℕ) → IsBitSet set j ↔ ((j < 128) × (j < i) × P j)
 pub found-one : (P : ℕ → Type 0) (i old new : ℕ) → IsFound P i old → ((j : ℕ) → IsBitSet new j ↔ (((j ≡ i) × (j < 128)) ⊎ IsBitSet old j)) → P i → IsFound P (i + 1) new
 found-one P i old new inv step here j = (
   (λ bit. elim ((step j).0 bit) [
-      inl h ↦ (let e = h.0 in (h.1, (omega (arith, e)), subst P (sym e) here))
-    | inr o ↦ (let p = (inv j).0 o in let l = p.1 in (p.0, (omega (arith, l)), p.2)) ]),
+    | inl h ↦ (let e = h.0 in (h.1, (omega (arith, e)), subst P (sym e) here))
+    | inr o ↦ (let p = (inv j).0 o in let l = p.1 in (p.0, (omega (arith, l)), p.2))
+  ]),
   (λ p. (step j).1 (elim (cases_lt j i) [
-      inl l ↦ inr ((inv j).1 (p.0, l, p.2))
-    | inr g ↦ (let l = p.1 in inl ((omega (arith, l, g)), p.0)) ])),
+    | inl l ↦ inr ((inv j).1 (p.0, l, p.2))
+    | inr g ↦ (let l = p.1 in inl ((omega (arith, l, g)), p.0))
+  ])),
 )
 
 pub found-not : (P : ℕ → Type 0) (i old : ℕ) → IsFound P i old → (P i → ⊥) → IsFound P (i + 1) old
 found-not P i old inv none j = (
   (λ bit. let p = (inv j).0 bit in let l = p.1 in (p.0, (omega (arith, l)), p.2)),
   (λ p. elim (cases_lt j i) [
-      inl l ↦ (inv j).1 (p.0, l, p.2)
-    | inr g ↦ (let l = p.1 in let e : j ≡ i = omega (arith, l, g) in absurd (none (subst P e p.2))) ]),
+    | inl l ↦ (inv j).1 (p.0, l, p.2)
+    | inr g ↦ (let l = p.1 in let e : j ≡ i = omega (arith, l, g) in absurd (none (subst P e p.2)))
+  ]),
 )

@@ -1,6 +1,6 @@
 -- What the tests of the progress say of the construction's choice.
-use Rattle.std.specs.Prelude.{All, Contains, slice_get, slice_index, map, IsSome, IsBitSet, ◌↔◌, MatchOption, take, IsTrue}
-use Rattle.std.proofs.Common.{◌≡◌, ℕ, zero, suc, ◌<◌, ◌≤◌, ◌+◌, ◌⊎◌, inl, inr, List, [], ◌∷◌, length, get_or, Option, Some, None, true, false, refl, arith, ap, sym, subst, ◌∙◌}
+use Rattle.std.specs.Prelude.{All, Contains, slice_get, slice_index, map, IsSome, IsBitSet, ◌↔◌, MatchOption, take, IsTrue, IfOk}
+use Rattle.std.proofs.Common.{◌≡◌, ℕ, zero, suc, ◌<◌, ◌≤◌, ◌+◌, ◌⊎◌, inl, inr, List, [], ◌∷◌, length, get_or, Option, Some, None, Result, Ok, Err, true, false, refl, arith, ap, sym, subst, ◌∙◌}
 use Rattle.std.proofs.lemmas.Bool.{cases_lt}
 use Rattle.std.proofs.lemmas.Option.{slice_get_within, slice_get-get_or}
 use Rattle.std.proofs.lemmas.List.{take_all}
@@ -27,8 +27,9 @@ use Rattle.flat_grammar.proofs.Lists.{held, contains-nil, contains-cons, contain
 use Rattle.visit_sequences.specs.declared.goals.Goal.{Goal}
 use Rattle.visit_sequences.specs.declared.progress.Progress.{Progress}
 use Rattle.visit_sequences.specs.Steps.{row_of, IsBefore, IsGoal, AreGoals, HasBit, Follows, IsOpen, HasAll, OwesClass, HasLeft, IsOfUseFrom, IsReadyAt, IsNextAt, Owes, IsLeastChild, IsNoChild}
-use Rattle.visit_sequences.proofs.ClosedWalks.{all-from_each}
+use Rattle.visit_sequences.proofs.ClosedWalks.{all-from_each, at_most-further}
 use Rattle.visit_sequences.proofs.Classes.{row-there}
+use Rattle.visit_sequences.proofs.BitsLemmas.{taken-more, taken-here}
 use Rattle.visit_sequences.proofs.Occurrences.{rule-is}
 use Rattle.visit_sequences.proofs.StepLemmas.{row-class, class-row}
 
@@ -36,14 +37,16 @@ use Rattle.visit_sequences.proofs.StepLemmas.{row-class, class-row}
 goal-entry : (goals : List Goal) (o : Occ) → Contains (map (λ (g : Goal). g.goal) goals) o → (g : Goal) × Contains goals g × (g.goal ≡ o)
 goal-entry [] o m = absurd (contains-nil o m)
 goal-entry (g ∷ goals) o m = elim (contains-cons g.goal o (map (λ (x : Goal). x.goal) goals) m) [
-    inl e ↦ (g, contains-first g goals, e)
-  | inr n ↦ (let p = goal-entry goals o n in (p.0, contains-later g p.0 goals p.1, p.2)) ]
+  | inl e ↦ (g, contains-first g goals, e)
+  | inr n ↦ (let p = goal-entry goals o n in (p.0, contains-later g p.0 goals p.1, p.2))
+]
 
 entry-goal : (goals : List Goal) (g : Goal) → Contains goals g → Contains (map (λ (x : Goal). x.goal) goals) g.goal
 entry-goal [] g m = absurd (contains-nil g m)
 entry-goal (x ∷ goals) g m = elim (contains-cons x g goals m) [
-    inl e ↦ subst (λ (y : Goal). Contains (x.goal ∷ map (λ (z : Goal). z.goal) goals) y.goal) e (contains-first x.goal (map (λ (z : Goal). z.goal) goals))
-  | inr n ↦ contains-later x.goal g.goal (map (λ (z : Goal). z.goal) goals) (entry-goal goals g n) ]
+  | inl e ↦ subst (λ (y : Goal). Contains (x.goal ∷ map (λ (z : Goal). z.goal) goals) y.goal) e (contains-first x.goal (map (λ (z : Goal). z.goal) goals))
+  | inr n ↦ contains-later x.goal g.goal (map (λ (z : Goal). z.goal) goals) (entry-goal goals g n)
+]
 
 module _ (symbols : List FlatSymbol) (rules : List FlatRule) (visits : List (List VisitClass)) (r : FlatRule) (goals : List Goal) (are : AreGoals symbols rules r goals) (p : Progress) (follows : Follows visits r p) where
   abbrev Before : List PlanItem
@@ -86,10 +89,11 @@ module _ (symbols : List FlatSymbol) (rules : List FlatRule) (visits : List (Lis
       at_hand u label (partition {x = x} n e at i f) = own u x e at (inr f)
 
   ready-open : (g : Goal) → Contains goals g → IsReady symbols rules visits r Before g.goal → IsOpen p g
-  ready-open g m (left, at_hand) =
-      ((λ bit. left.1 ((follows.evaluated g.goal).0 bit)),
-      (λ a bit none. before-edge g.goal a (((goal-is g m).same a).0 bit) (λ label e. (follows.at_hand (record { occ = g.goal.occ; attr = a })).1 (at_hand (record { occ = g.goal.occ; attr = a }) label e) none)),
-      (λ u n. (follows.at_hand u).1 (at_hand u Direct (direct (((goal-is g m).direct u).0 n)))))
+  ready-open g m (left, at_hand) = (
+    (λ bit. left.1 ((follows.evaluated g.goal).0 bit)),
+    (λ a bit none. before-edge g.goal a (((goal-is g m).same a).0 bit) (λ label e. (follows.at_hand (record { occ = g.goal.occ; attr = a })).1 (at_hand (record { occ = g.goal.occ; attr = a }) label e) none)),
+    (λ u n. (follows.at_hand u).1 (at_hand u Direct (direct (((goal-is g m).direct u).0 n)))),
+  )
 
   pub quiet-is : All (λ g. IsOpen p g → ⊥) goals → HasReady symbols rules visits r Before → ⊥
   quiet-is none (o, ready) =
@@ -195,3 +199,50 @@ module _ (symbols : List FlatSymbol) (rules : List FlatRule) (visits : List (Lis
     pub chosen-leave : (n : ℕ) → n ≡ p.segment → All (λ g. IsOpen p g → ⊥) goals → (Owes visits r p goals → IsNoChild r (IsReadyAt visits r p)) → (p.segment ≡ length (row_of visits r 0) → IsNoChild r (IsNextAt visits r p))
         → IsChosen symbols rules visits r Before (Leave n)
     chosen-leave n e none idle over = subst (λ k. IsChosen symbols rules visits r Before (Leave k)) (sym (e ∙ follows.segment)) (leave (quiet-is none) (no-ready_visit idle) (no-next over))
+
+-- the least of the goals that are ready, if there is one
+abbrev pub IsLeastOpen : Progress → List Goal → Option Occ → Type 0
+IsLeastOpen p goals least = MatchOption least (All (λ g. IsOpen p g → ⊥) goals) (λ o. ((g : Goal) × Contains goals g × IsOpen p g × (g.goal ≡ o)) × All (λ g. IsOpen p g → IsAtMost o g.goal) goals)
+
+module _ (p : Progress) (goals : List Goal) (i : ℕ) (g : Goal) (h : i < length goals) (at : g ≡ get_or goals i g) where
+  more : (P : Goal → Type 0) → All P (take i goals) → P g → All P (take (i + 1) goals)
+  more P all one = All-more P goals i g h all (subst P at one)
+
+  still : (x : Goal) → Contains (take i goals) x → Contains (take (i + 1) goals) x
+  still x m = taken-more goals i g x h m
+
+  here : Contains (take (i + 1) goals) g
+  here = subst (λ x. Contains (take (i + 1) goals) x) (sym at) (taken-here goals i g h)
+
+  pub least-skip : (least : Option Occ) → IsLeastOpen p (take i goals) least → (IsOpen p g → ⊥) → IsLeastOpen p (take (i + 1) goals) least
+  least-skip None all n = more (λ x. IsOpen p x → ⊥) all n
+  least-skip (Some o) ((x, m, opens, e), all) n = ((x, still x m, opens, e), more (λ x. IsOpen p x → IsAtMost o x.goal) all (λ q. absurd (n q)))
+
+  pub least-take : (least : Option Occ) (o : Occ) → IsLeastOpen p (take i goals) least → IsOpen p g → IsAtMost o g.goal → MatchOption least (o ≡ g.goal) (λ q. IsAtMost o q × ((o ≡ q) ⊎ (o ≡ g.goal))) → IsLeastOpen p (take (i + 1) goals) (Some o)
+  least-take None o all opens below same = ((g, here, opens, sym same), more (λ x. IsOpen p x → IsAtMost o x.goal) (All-weaker (λ x. IsOpen p x → ⊥) (λ x. IsOpen p x → IsAtMost o x.goal) (λ x n q. absurd (n q)) (take i goals) all) (λ q. below))
+  least-take (Some q) o ((x, m, opens', e), all) opens below (under, either) =
+      (found either, more (λ x. IsOpen p x → IsAtMost o x.goal) (All-weaker (λ x. IsOpen p x → IsAtMost q x.goal) (λ x. IsOpen p x → IsAtMost o x.goal) (λ x f z. at_most-further o q x.goal under (f z)) (take i goals) all) (λ z. below))
+    where
+      found : (o ≡ q) ⊎ (o ≡ g.goal) → (y : Goal) × Contains (take (i + 1) goals) y × IsOpen p y × (y.goal ≡ o)
+      found (inl s) = (x, still x m, opens', e ∙ sym s)
+      found (inr s) = (g, here, opens, sym s)
+
+-- no child up to one more
+pub none-more : (P : ℕ → Type 0) (k : ℕ) → ((j : ℕ) → 0 < j → j ≤ k → P j → ⊥) → (P (k + 1) → ⊥) → (j : ℕ) → 0 < j → j ≤ k + 1 → P j → ⊥
+none-more P k none one j pos h p = elim (cases_lt k j) [ inl l ↦ (let e : j ≡ k + 1 = omega (arith, l, h) in one (subst P e p)) | inr g ↦ none j pos g p ]
+
+-- the first child is the least
+pub first-child : (r : FlatRule) (P : ℕ → Type 0) (k : ℕ) → k < length r.right → ((j : ℕ) → 0 < j → j ≤ k → P j → ⊥) → P (k + 1) → IsLeastChild r P (k + 1)
+first-child r P k h none here = ((omega arith), (omega (arith, h)), here, (λ j pos p. elim (cases_lt k j) [ inl l ↦ omega (arith, l) | inr g ↦ absurd (none j pos g p) ]))
+
+-- the list is empty where its length is not above 0
+pub empty-list : {X : Type 0} (xs : List X) → length xs ≤ 0 → xs ≡ []
+empty-list [] h = refl
+empty-list (x ∷ xs) h = absurd (omega (arith, h))
+
+pub some-list : {X : Type 0} (xs : List X) → 0 < length xs → xs ≡ [] → ⊥
+some-list xs h e = let l = ap (λ ys. length ys) e in omega (arith, h, l)
+
+pub if_ok-then : {T E : Type 0} (r : Result T E) (P Q : T → Type 0) → ((x : T) → P x → Q x) → IfOk r P → IfOk r Q
+if_ok-then (Ok x) P Q f h = f x h
+if_ok-then (Err e) P Q f h = h

@@ -26,7 +26,7 @@ same_occ-or o p = go (cases_order o.occ p.occ) (cases_order o.attr.0 p.attr.0)
     go (inl e) (inr (inl l)) = inr (λ e. let f = ap (λ (x : Occ). x.attr.0) e in omega (arith, l, f))
     go (inl e) (inr (inr l)) = inr (λ e. let f = ap (λ (x : Occ). x.attr.0) e in omega (arith, l, f))
 
-at_most-or : (o p : Occ) → IsAtMost o p ⊎ IsAtMost p o
+pub at_most-or : (o p : Occ) → IsAtMost o p ⊎ IsAtMost p o
 at_most-or o p = go (cases_order o.occ p.occ) (cases_order o.attr.0 p.attr.0)
   where
     go : (o.occ ≡ p.occ) ⊎ ((o.occ < p.occ) ⊎ (p.occ < o.occ)) → (o.attr.0 ≡ p.attr.0) ⊎ ((o.attr.0 < p.attr.0) ⊎ (p.attr.0 < o.attr.0)) → IsAtMost o p ⊎ IsAtMost p o
@@ -39,7 +39,7 @@ at_most-or o p = go (cases_order o.occ p.occ) (cases_order o.attr.0 p.attr.0)
 at_most-itself : (o : Occ) → IsAtMost o o
 at_most-itself o = inr (refl, (omega arith))
 
-at_most-further : (o p q : Occ) → IsAtMost o p → IsAtMost p q → IsAtMost o q
+pub at_most-further : (o p q : Occ) → IsAtMost o p → IsAtMost p q → IsAtMost o q
 at_most-further o p q (inl a) (inl b) = inl (omega (arith, a, b))
 at_most-further o p q (inl a) (inr b) = let e = b.0 in inl (omega (arith, a, e))
 at_most-further o p q (inr a) (inl b) = let e = a.0 in inl (omega (arith, b, e))

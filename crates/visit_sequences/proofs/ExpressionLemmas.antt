@@ -51,27 +51,32 @@ reads-step list xs args x o r = go
     go : Contains (list ++ own_reads x) o ⊎ Contains (flat_map reads (xs ++ args)) o → Contains list o ⊎ Contains (flat_map reads (xs ++ x ∷ [])) o
     go (inl m) = elim (Contains-append_cases list (own_reads x) o m) [ inl i ↦ inl i | inr j ↦ last (subst (λ l. Contains l o) (sym r) (Contains-append_left (own_reads x) (flat_map reads args) o j)) ]
     go (inr m) = elim (Contains-append_cases (flat_map reads xs) (flat_map reads args) o (subst (λ l. Contains l o) (flat_map-append reads xs args) m)) [
-          inl i ↦ inr (subst (λ l. Contains l o) (sym (flat_map-append reads xs (x ∷ []))) (Contains-append_left (flat_map reads xs) (flat_map reads (x ∷ [])) o i))
-        | inr j ↦ last (subst (λ l. Contains l o) (sym r) (Contains-append_right (own_reads x) (flat_map reads args) o j)) ]
+      | inl i ↦ inr (subst (λ l. Contains l o) (sym (flat_map-append reads xs (x ∷ []))) (Contains-append_left (flat_map reads xs) (flat_map reads (x ∷ [])) o i))
+      | inr j ↦ last (subst (λ l. Contains l o) (sym r) (Contains-append_right (own_reads x) (flat_map reads args) o j))
+    ]
 
 pub reads-back : (list : List Occ) (xs args : List FlatExpr) (x : FlatExpr) (o : Occ) → reads x ≡ own_reads x ++ flat_map reads args
     → Contains list o ⊎ Contains (flat_map reads (xs ++ x ∷ [])) o → Contains (list ++ own_reads x) o ⊎ Contains (flat_map reads (xs ++ args)) o
 reads-back list xs args x o r (inl m) = inl (Contains-append_left list (own_reads x) o m)
 reads-back list xs args x o r (inr m) = elim (Contains-append_cases (flat_map reads xs) (flat_map reads (x ∷ [])) o (subst (λ l. Contains l o) (flat_map-append reads xs (x ∷ [])) m)) [
-      inl i ↦ inr (subst (λ l. Contains l o) (sym (flat_map-append reads xs args)) (Contains-append_left (flat_map reads xs) (flat_map reads args) o i))
-    | inr j ↦ elim (Contains-append_cases (own_reads x) (flat_map reads args) o (subst (λ l. Contains l o) (flat_map-cons reads x [] ∙ (append-nil (reads x) ∙ r)) j)) [
-          inl k ↦ inl (Contains-append_right list (own_reads x) o k)
-        | inr k ↦ inr (subst (λ l. Contains l o) (sym (flat_map-append reads xs args)) (Contains-append_right (flat_map reads xs) (flat_map reads args) o k)) ] ]
+  | inl i ↦ inr (subst (λ l. Contains l o) (sym (flat_map-append reads xs args)) (Contains-append_left (flat_map reads xs) (flat_map reads args) o i))
+  | inr j ↦ elim (Contains-append_cases (own_reads x) (flat_map reads args) o (subst (λ l. Contains l o) (flat_map-cons reads x [] ∙ (append-nil (reads x) ∙ r)) j)) [
+    | inl k ↦ inl (Contains-append_right list (own_reads x) o k)
+    | inr k ↦ inr (subst (λ l. Contains l o) (sym (flat_map-append reads xs args)) (Contains-append_right (flat_map reads xs) (flat_map reads args) o k))
+  ]
+]
 
 -- a list of what is read, with what stands behind it
 pub read-and-after : (list new given all after : List Occ) → new ≡ list ++ given → given ≡ after → ((o : Occ) → Contains list o ↔ Contains all o) → (o : Occ) → Contains new o ↔ Contains (all ++ after) o
 read-and-after list new given all after e f same o = (
   (λ m. elim (Contains-append_cases list given o (subst (λ l. Contains l o) e m)) [
-      inl i ↦ Contains-append_left all after o ((same o).0 i)
-    | inr j ↦ Contains-append_right all after o (subst (λ l. Contains l o) f j) ]),
+    | inl i ↦ Contains-append_left all after o ((same o).0 i)
+    | inr j ↦ Contains-append_right all after o (subst (λ l. Contains l o) f j)
+  ]),
   (λ m. subst (λ l. Contains l o) (sym e) (elim (Contains-append_cases all after o m) [
-      inl i ↦ Contains-append_left list given o ((same o).1 i)
-    | inr j ↦ Contains-append_right list given o (subst (λ l. Contains l o) (sym f) j) ])),
+    | inl i ↦ Contains-append_left list given o ((same o).1 i)
+    | inr j ↦ Contains-append_right list given o (subst (λ l. Contains l o) (sym f) j)
+  ])),
 )
 
 -- one step along the stack, where the list and the stack have become these

@@ -26,9 +26,10 @@ use Rattle.visit_sequences.proofs.Occurrences.{symbol-there, IDS-attribute}
 module _ (row : List VisitClass) (b : AttrId) where
   lacks-more : (k : ℕ) (c : VisitClass) → slice_get row k ≡ Some c → LacksBefore row k b → (Contains c.inherited b → ⊥) → (Contains c.synthesized b → ⊥) → LacksBefore row (k + 1) b
   lacks-more k c e lacks n m l d h f = elim (cases_lt l k) [
-        inl i ↦ lacks l d i f
-      | inr g ↦ (let place : l ≡ k = omega (arith, g, h) in let same : d ≡ c = held (sym f ∙ (ap (λ i. slice_get row i) place ∙ e)) in
-          ((λ i. n (subst (λ (z : VisitClass). Contains z.inherited b) same i)), (λ i. m (subst (λ (z : VisitClass). Contains z.synthesized b) same i)))) ]
+    | inl i ↦ lacks l d i f
+    | inr g ↦ (let place : l ≡ k = omega (arith, g, h) in let same : d ≡ c = held (sym f ∙ (ap (λ i. slice_get row i) place ∙ e)) in
+        ((λ i. n (subst (λ (z : VisitClass). Contains z.inherited b) same i)), (λ i. m (subst (λ (z : VisitClass). Contains z.synthesized b) same i))))
+  ]
 
   passed-more : (k : ℕ) (c : VisitClass) (a : AttrId) → slice_get row k ≡ Some c → PassedBefore row k a ⊎ (Contains c.inherited a ⊎ Contains c.synthesized a) → PassedBefore row (k + 1) a
   passed-more k c a e (inl (j, d, l, f, m)) = (j, d, (omega (arith, l)), f, m)
@@ -36,9 +37,10 @@ module _ (row : List VisitClass) (b : AttrId) where
 
   passed-cases : (k : ℕ) (c : VisitClass) (a : AttrId) → slice_get row k ≡ Some c → PassedBefore row (k + 1) a → PassedBefore row k a ⊎ (Contains c.inherited a ⊎ Contains c.synthesized a)
   passed-cases k c a e (j, d, l, f, m) = elim (cases_lt j k) [
-        inl i ↦ inl (j, d, i, f, m)
-      | inr g ↦ (let place : j ≡ k = omega (arith, g, l) in let same : d ≡ c = held (sym f ∙ (ap (λ i. slice_get row i) place ∙ e)) in
-          inr (subst (λ (z : VisitClass). Contains z.inherited a ⊎ Contains z.synthesized a) same m)) ]
+    | inl i ↦ inl (j, d, i, f, m)
+    | inr g ↦ (let place : j ≡ k = omega (arith, g, l) in let same : d ≡ c = held (sym f ∙ (ap (λ i. slice_get row i) place ∙ e)) in
+        inr (subst (λ (z : VisitClass). Contains z.inherited a ⊎ Contains z.synthesized a) same m))
+  ]
 
   passed-stands : (k : ℕ) (a : AttrId) → LacksBefore row k b → PassedBefore row k a → StandsBefore row a b
   passed-stands k a lacks (j, d, l, f, inl m) = (j, d, f, (λ i x h g. lacks i x (omega (arith, h, l)) g), inl (m, (lacks j d l f).0))
@@ -124,13 +126,16 @@ module _ (row : List VisitClass) (b : AttrId) where
       → HasMembers c.synthesized synthesized → IsUnion both synthesized next → HasPassed (k + 1) next
   next-passed k c set inherited both synthesized next e has members union more union' a = (
     (λ h. elim ((union' a.0).0 h) [
-        inl i ↦ elim ((union a.0).0 i) [
-            inl j ↦ (let p = (has a).0 j in (p.0, passed-more k c a e (inl p.1)))
-          | inr j ↦ (let p = (members a).0 j in (p.0, passed-more k c a e (inr (inl p.1)))) ]
-      | inr i ↦ (let p = (more a).0 i in (p.0, passed-more k c a e (inr (inr p.1)))) ]),
+      | inl i ↦ elim ((union a.0).0 i) [
+        | inl j ↦ (let p = (has a).0 j in (p.0, passed-more k c a e (inl p.1)))
+        | inr j ↦ (let p = (members a).0 j in (p.0, passed-more k c a e (inr (inl p.1))))
+      ]
+      | inr i ↦ (let p = (more a).0 i in (p.0, passed-more k c a e (inr (inr p.1))))
+    ]),
     (λ q. (union' a.0).1 (elim (passed-cases k c a e q.1) [
-        inl p ↦ inl ((union a.0).1 (inl ((has a).1 (q.0, p))))
-      | inr m ↦ elim m [ inl i ↦ inl ((union a.0).1 (inr ((members a).1 (q.0, i)))) | inr j ↦ inr ((more a).1 (q.0, j)) ] ])),
+      | inl p ↦ inl ((union a.0).1 (inl ((has a).1 (q.0, p))))
+      | inr m ↦ elim m [ inl i ↦ inl ((union a.0).1 (inr ((members a).1 (q.0, i)))) | inr j ↦ inr ((more a).1 (q.0, j)) ]
+    ])),
   )
 
   pub end-return : (k : ℕ) (set : ℕ) → length row ≤ k → LacksBefore row k b → HasPassed k set → (a : AttrId) → IsBitSet set a.0 ↔ ((a.0 < 128) × StandsBefore row a b)
@@ -142,8 +147,9 @@ module _ (symbols : List FlatSymbol) (rules : List FlatRule) (x : SymId) where
 
   not-earlier : (n m : ℕ) (a b : AttrId) → IsInClass symbols rules x n a → IsInClass symbols rules x m b → n ≤ m → IsEarlier symbols rules x a b → ⊥
   not-earlier n m a b p q h (some, k, peeled, left) = elim (cases_lt m k) [
-      inl l ↦ left (IsPeeled-grows symbols rules x k (suc n) a (omega (arith, l, h)) p.0)
-    | inr g ↦ q.1 (IsPeeled-grows symbols rules x m k b g peeled) ]
+    | inl l ↦ left (IsPeeled-grows symbols rules x k (suc n) a (omega (arith, l, h)) p.0)
+    | inr g ↦ q.1 (IsPeeled-grows symbols rules x m k b g peeled)
+  ]
 
   module _ (row : List VisitClass) (are : AreVisits symbols rules x row) where
     -- the class of what a visit inherits or synthesizes, by how many visits come behind it
@@ -176,19 +182,38 @@ module _ (symbols : List FlatSymbol) (rules : List FlatRule) (x : SymId) where
             lacks k c e m l d h f = ((λ n. no-earlier-place k l c d a b e f h m (inl n) early), (λ n. no-earlier-place k l c d a b e f h m (inr n) early))
 
             go : (k : ℕ) × (c : VisitClass) × (slice_get row k ≡ Some c) × (Contains c.inherited a ⊎ Contains c.synthesized a) → StandsBefore row a b
-            go (k, c, e, inl m) = (k, c, e, lacks k c e (inl m), inl (m, (λ n.
-                let p = inherited-class k c a e m in let q = inherited-class k c b e n in let s = p.1 in let t = q.1 in
-                not-earlier (2 * p.0 + 1) (2 * q.0 + 1) a b p.2 q.2 (omega (arith, s, t)) early)))
-            go (k, c, e, inr m) = (k, c, e, lacks k c e (inr m), inr (m,
+            go (k, c, e, inl m) = (
+              k,
+              c,
+              e,
+              lacks k c e (inl m),
+              inl (
+                m,
+                (λ n.
+                    let p = inherited-class k c a e m in let q = inherited-class k c b e n in let s = p.1 in let t = q.1 in
+                    not-earlier (2 * p.0 + 1) (2 * q.0 + 1) a b p.2 q.2 (omega (arith, s, t)) early),
+              ),
+            )
+            go (k, c, e, inr m) = (
+              k,
+              c,
+              e,
+              lacks k c e (inr m),
+              inr (
+                m,
                 (λ n. let p = synthesized-class k c a e m in let q = inherited-class k c b e n in let s = p.1 in let t = q.1 in not-earlier (2 * p.0) (2 * q.0 + 1) a b p.2 q.2 (omega (arith, s, t)) early),
-                (λ n. let p = synthesized-class k c a e m in let q = synthesized-class k c b e n in let s = p.1 in let t = q.1 in not-earlier (2 * p.0) (2 * q.0) a b p.2 q.2 (omega (arith, s, t)) early)))
+                (λ n. let p = synthesized-class k c a e m in let q = synthesized-class k c b e n in let s = p.1 in let t = q.1 in not-earlier (2 * p.0) (2 * q.0) a b p.2 q.2 (omega (arith, s, t)) early),
+              ),
+            )
 
         back : StandsBefore row a b → IsEarlier symbols rules x a b
         back (k, c, e, lacks, m) = go (stands symbols rules x row are b some)
           where
             there : IsSome (attribute_at symbols x a)
-            there = elim m [ inl p ↦ (let h = inherited-kind symbols rules x row are k c a e p.0 in some-is (attribute_at symbols x a) h.0 h.1)
-                | inr q ↦ (let h = synthesized-kind symbols rules x row are k c a e q.0 in some-is (attribute_at symbols x a) h.0 h.1) ]
+            there = elim m [
+              | inl p ↦ (let h = inherited-kind symbols rules x row are k c a e p.0 in some-is (attribute_at symbols x a) h.0 h.1)
+              | inr q ↦ (let h = synthesized-kind symbols rules x row are k c a e q.0 in some-is (attribute_at symbols x a) h.0 h.1)
+            ]
 
             place : Contains c.inherited a ⊎ Contains c.synthesized a
             place = elim m [ inl p ↦ inl p.0 | inr q ↦ inr q.0 ]
@@ -200,9 +225,10 @@ module _ (symbols : List FlatSymbol) (rules : List FlatRule) (x : SymId) where
             at-same : (d : VisitClass) → d ≡ c → (Contains d.inherited b ⊎ Contains d.synthesized b) → IsEarlier symbols rules x a b
             at-same d same (inl n) = absurd (elim m [ inl p ↦ p.1 (subst (λ (z : VisitClass). Contains z.inherited b) same n) | inr q ↦ q.1 (subst (λ (z : VisitClass). Contains z.inherited b) same n) ])
             at-same d same (inr n) = elim m [
-                inl p ↦ (let s = inherited-class k c a e p.0 in let t = synthesized-class k c b e (subst (λ (z : VisitClass). Contains z.synthesized b) same n) in let u = s.1 in let v = t.1 in
-                    later-class (2 * s.0 + 1) (2 * t.0) a b s.2 t.2 (omega (arith, u, v)) there)
-              | inr q ↦ absurd (q.2 (subst (λ (z : VisitClass). Contains z.synthesized b) same n)) ]
+              | inl p ↦ (let s = inherited-class k c a e p.0 in let t = synthesized-class k c b e (subst (λ (z : VisitClass). Contains z.synthesized b) same n) in let u = s.1 in let v = t.1 in
+                  later-class (2 * s.0 + 1) (2 * t.0) a b s.2 t.2 (omega (arith, u, v)) there)
+              | inr q ↦ absurd (q.2 (subst (λ (z : VisitClass). Contains z.synthesized b) same n))
+            ]
 
             go : (l : ℕ) × (d : VisitClass) × (slice_get row l ≡ Some d) × (Contains d.inherited b ⊎ Contains d.synthesized b) → IsEarlier symbols rules x a b
             go (l, d, f, n) = pick (cases_order l k)
@@ -280,8 +306,9 @@ module _ (symbols : List FlatSymbol) (rules : List FlatRule) (shapes : List Shap
 
         forth : IsBitSet set a.0 → IsBefore symbols rules r goal a
         forth bit = elim ((union a.0).0 bit) [
-            inl i ↦ (x, at, inr (earlier.1 ((has a).0 i).1))
-          | inr j ↦ (let p = (induced a).0 j in (x, at, inl ((induced-is x of_x e a goal.attr).1 (p.1, p.2, p.3)))) ]
+          | inl i ↦ (x, at, inr (earlier.1 ((has a).0 i).1))
+          | inr j ↦ (let p = (induced a).0 j in (x, at, inl ((induced-is x of_x e a goal.attr).1 (p.1, p.2, p.3))))
+        ]
 
         back : IsBefore symbols rules r goal a → IsBitSet set a.0
         back (y, at', other) = (union a.0).1 (pick (subst (λ s. IDS rules s a goal.attr ⊎ IsEarlier symbols rules s a goal.attr) (held (sym at' ∙ at)) other))

@@ -25,10 +25,10 @@ use Rattle.flat_grammar.specs.SoundPlan.{goals_of}
 use Rattle.flat_grammar.proofs.Lists.{held, contains-nil, contains-cons, contains-first, contains-later}
 use Rattle.visit_sequences.proofs.Classes.{value_in, some-is}
 
-same-itself : (o : Occ) → is_same_occ o o ≡ true
+pub same-itself : (o : Occ) → is_same_occ o o ≡ true
 same-itself o = and_from (o.occ == o.occ) (o.attr.0 == o.attr.0) (eq-eqb o.occ o.occ refl) (eq-eqb o.attr.0 o.attr.0 refl)
 
-same-occurrence : (o p : Occ) → is_same_occ o p ≡ true → o ≡ p
+pub same-occurrence : (o p : Occ) → is_same_occ o p ≡ true → o ≡ p
 same-occurrence o p h =
     let b = and_parts (o.occ == p.occ) (o.attr.0 == p.attr.0) h in
     let e = eqb-true o.occ p.occ b.0 in let f = eqb-true o.attr.0 p.attr.0 b.1 in λ i. record { occ = e i; attr = record { 0 = f i } }

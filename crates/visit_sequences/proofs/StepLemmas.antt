@@ -42,10 +42,10 @@ module _ (visits : List (List VisitClass)) (r : FlatRule) where
       let a = visits-append k before (Visit j v ∷ []) in
       let b : visits_made (Visit j v ∷ []) k ≡ cond (nat_eq j k) 1 0 + 0 = sum_by-cons (λ x. cond (is_visit_of k x) 1 0) (Visit j v) [] in omega (arith, a, b)
 
-  visit-counts_same : (before : List PlanItem) (k v : ℕ) → visits_made (before ++ Visit k v ∷ []) k ≡ suc (visits_made before k)
+  pub visit-counts_same : (before : List PlanItem) (k v : ℕ) → visits_made (before ++ Visit k v ∷ []) k ≡ suc (visits_made before k)
   visit-counts_same before k v = let a = visit-counts before k v k in let b : cond (nat_eq k k) 1 0 ≡ 1 = ap (λ t. cond {A = ℕ} t 1 0) (eq-eqb k k refl) in omega (arith, a, b)
 
-  visit-counts_other : (before : List PlanItem) (j v k : ℕ) → (j ≡ k → ⊥) → visits_made (before ++ Visit j v ∷ []) k ≡ visits_made before k
+  pub visit-counts_other : (before : List PlanItem) (j v k : ℕ) → (j ≡ k → ⊥) → visits_made (before ++ Visit j v ∷ []) k ≡ visits_made before k
   visit-counts_other before j v k n = let a = visit-counts before j v k in let b : cond (nat_eq j k) 1 0 ≡ 0 = ap (λ t. cond {A = ℕ} t 1 0) (ne_eqb j k n) in omega (arith, a, b)
 
   -- what is at hand stays so
@@ -59,10 +59,10 @@ module _ (visits : List (List VisitClass)) (r : FlatRule) where
     evaluated-kept : (p : Occ) → IsEvaluated before p → IsEvaluated (before ++ x ∷ []) p
     evaluated-kept p e = Contains-append_left before (x ∷ []) (Eval p) e
 
-    made-kept : (k : ℕ) → visits_made before k ≤ visits_made (before ++ x ∷ []) k
+    pub made-kept : (k : ℕ) → visits_made before k ≤ visits_made (before ++ x ∷ []) k
     made-kept k = let a = visits-append k before (x ∷ []) in omega (arith, a)
 
-    segment-kept : segment_after before ≤ segment_after (before ++ x ∷ [])
+    pub segment-kept : segment_after before ≤ segment_after (before ++ x ∷ [])
     segment-kept = let a = leaves-append before (x ∷ []) in omega (arith, a)
 
     at_hand-kept : (p : Occ) → IsAtHand visits r before p → IsAtHand visits r (before ++ x ∷ []) p
@@ -76,7 +76,7 @@ module _ (visits : List (List VisitClass)) (r : FlatRule) where
     eval-made : (k : ℕ) → visits_made (before ++ Eval o ∷ []) k ≡ visits_made before k
     eval-made k = let a = visits-append k before (Eval o ∷ []) in let b : visits_made (Eval o ∷ []) k ≡ 0 = refl in omega (arith, a, b)
 
-    eval-segment : segment_after (before ++ Eval o ∷ []) ≡ segment_after before
+    pub eval-segment : segment_after (before ++ Eval o ∷ []) ≡ segment_after before
     eval-segment = let a = leaves-append before (Eval o ∷ []) in let b : count_by is_leave (Eval o ∷ []) ≡ 0 = refl in omega (arith, a, b)
 
     eval-evaluated : (p : Occ) → IsEvaluated (before ++ Eval o ∷ []) p ↔ (IsEvaluated before p ⊎ (p ≡ o))
@@ -102,7 +102,7 @@ module _ (visits : List (List VisitClass)) (r : FlatRule) where
     visit-evaluated : (p : Occ) → IsEvaluated (before ++ Visit k v ∷ []) p ↔ IsEvaluated before p
     visit-evaluated p = ((λ m. elim (Contains-push_cases before (Visit k v) (Eval p) m) [ inl i ↦ i | inr e ↦ absurd (true≢false (sym (ap is_evaluation e))) ]), evaluated-kept before (Visit k v) p)
 
-    visit-segment : segment_after (before ++ Visit k v ∷ []) ≡ segment_after before
+    pub visit-segment : segment_after (before ++ Visit k v ∷ []) ≡ segment_after before
     visit-segment = let a = leaves-append before (Visit k v ∷ []) in let b : count_by is_leave (Visit k v ∷ []) ≡ 0 = refl in omega (arith, a, b)
 
     visit-at_hand : 0 < k → v ≡ suc (visits_made before k) → (p : Occ)
@@ -121,8 +121,9 @@ module _ (visits : List (List VisitClass)) (r : FlatRule) where
             go : (k ≡ p.occ) ⊎ (k ≡ p.occ → ⊥) → IsAtHand visits r before p ⊎ ((p.occ ≡ k) × PassesIn (λ (c : VisitClass). c.synthesized) (row_of visits r k) v p.attr)
             go (inr n) = let h = visit-counts_other before k v p.occ n in inl (inr (inl (z, u, c, (omega (arith, l, h)), at, m)))
             go (inl e) = elim (cases_lt u v) [
-                  inl i ↦ (let h = ap (λ n. visits_made before n) e in inl (inr (inl (z, u, c, (omega (arith, i, next, h)), at, m))))
-                | inr g ↦ (let h = visit-counts_same before k v in let s = ap (λ n. visits_made (before ++ Visit k v ∷ []) n) e in inr (sym e, here u at e (omega (arith, g, l, h, s, next)))) ]
+              | inl i ↦ (let h = ap (λ n. visits_made before n) e in inl (inr (inl (z, u, c, (omega (arith, i, next, h)), at, m))))
+              | inr g ↦ (let h = visit-counts_same before k v in let s = ap (λ n. visits_made (before ++ Visit k v ∷ []) n) e in inr (sym e, here u at e (omega (arith, g, l, h, s, next))))
+            ]
 
         back : IsAtHand visits r before p ⊎ ((p.occ ≡ k) × PassesIn (λ (c : VisitClass). c.synthesized) (row_of visits r k) v p.attr) → IsAtHand visits r (before ++ Visit k v ∷ []) p
         back (inl h) = at_hand-kept before (Visit k v) p h
@@ -138,7 +139,7 @@ module _ (visits : List (List VisitClass)) (r : FlatRule) where
     leave-made : (k : ℕ) → visits_made (before ++ Leave v ∷ []) k ≡ visits_made before k
     leave-made k = let a = visits-append k before (Leave v ∷ []) in let b : visits_made (Leave v ∷ []) k ≡ 0 = refl in omega (arith, a, b)
 
-    leave-segment : segment_after (before ++ Leave v ∷ []) ≡ suc (segment_after before)
+    pub leave-segment : segment_after (before ++ Leave v ∷ []) ≡ suc (segment_after before)
     leave-segment = let a = leaves-append before (Leave v ∷ []) in let b : count_by is_leave (Leave v ∷ []) ≡ 1 = refl in omega (arith, a, b)
 
     leave-at_hand : v ≡ segment_after before → (p : Occ)
@@ -150,8 +151,9 @@ module _ (visits : List (List VisitClass)) (r : FlatRule) where
         forth (inr (inl (z, u, c, l, at, m))) = let h = leave-made p.occ in inl (inr (inl (z, u, c, (omega (arith, l, h)), at, m)))
         forth (inr (inr (z, zero, c, l, at, m))) = absurd at
         forth (inr (inr (z, suc u, c, l, at, m))) = let h = leave-segment in elim (cases_lt u v) [
-              inl i ↦ inl (inr (inr (z, suc u, c, (omega (arith, i, own)), at, m)))
-            | inr g ↦ inr (z, (u, c, (omega (arith, g, l, h, own)), class-row 0 u c at, m)) ]
+          | inl i ↦ inl (inr (inr (z, suc u, c, (omega (arith, i, own)), at, m)))
+          | inr g ↦ inr (z, (u, c, (omega (arith, g, l, h, own)), class-row 0 u c at, m))
+        ]
 
         back : IsAtHand visits r before p ⊎ ((p.occ ≡ 0) × PassesIn (λ (c : VisitClass). c.inherited) (row_of visits r 0) (v + 1) p.attr) → IsAtHand visits r (before ++ Leave v ∷ []) p
         back (inl h) = at_hand-kept before (Leave v) p h
@@ -167,10 +169,12 @@ module _ (visits : List (List VisitClass)) (r : FlatRule) where
     follows-eval o items occ attr made segment each each' evaluated at_hand = record {
       evaluated = λ u. (
         (λ bit. subst (λ l. IsEvaluated l u) (sym items) ((eval-evaluated Old o u).1 (elim ((evaluated u).0 bit) [ inl i ↦ inl ((follows.evaluated u).0 i) | inr h ↦ inr h.0 ]))),
-        (λ e. (evaluated u).1 (elim ((eval-evaluated Old o u).0 (subst (λ l. IsEvaluated l u) items e)) [ inl i ↦ inl ((follows.evaluated u).1 i) | inr h ↦ inr (h, (let s = follows.each_evaluated in omega (arith, occ, s)), attr) ])));
+        (λ e. (evaluated u).1 (elim ((eval-evaluated Old o u).0 (subst (λ l. IsEvaluated l u) items e)) [ inl i ↦ inl ((follows.evaluated u).1 i) | inr h ↦ inr (h, (let s = follows.each_evaluated in omega (arith, occ, s)), attr) ])),
+      );
       at_hand = λ u. (
         (λ bit. subst (λ l. IsAtHand visits r l u) (sym items) ((eval-at_hand Old o u).1 (elim ((at_hand u).0 bit) [ inl i ↦ inl ((follows.at_hand u).0 i) | inr h ↦ inr h.0 ]))),
-        (λ e. (at_hand u).1 (elim ((eval-at_hand Old o u).0 (subst (λ l. IsAtHand visits r l u) items e)) [ inl i ↦ inl ((follows.at_hand u).1 i) | inr h ↦ inr (h, (let s = follows.each_at_hand in omega (arith, occ, s)), attr) ])));
+        (λ e. (at_hand u).1 (elim ((eval-at_hand Old o u).0 (subst (λ l. IsAtHand visits r l u) items e)) [ inl i ↦ inl ((follows.at_hand u).1 i) | inr h ↦ inr (h, (let s = follows.each_at_hand in omega (arith, occ, s)), attr) ])),
+      );
       each_evaluated = each ∙ follows.each_evaluated;
       each_at_hand = each' ∙ follows.each_at_hand;
       each_made = ap (λ v. length v.items) made ∙ follows.each_made;
@@ -184,10 +188,12 @@ module _ (visits : List (List VisitClass)) (r : FlatRule) where
     follows-visit k v items pos inside next few evaluated segment each made at_hand = record {
       evaluated = λ u. (
         (λ bit. subst (λ l. IsEvaluated l u) (sym items) ((visit-evaluated Old k v u).1 ((follows.evaluated u).0 (subst (λ s. HasBit s.items u) evaluated bit)))),
-        (λ e. subst (λ s. HasBit s.items u) (sym evaluated) ((follows.evaluated u).1 ((visit-evaluated Old k v u).0 (subst (λ l. IsEvaluated l u) items e)))));
+        (λ e. subst (λ s. HasBit s.items u) (sym evaluated) ((follows.evaluated u).1 ((visit-evaluated Old k v u).0 (subst (λ l. IsEvaluated l u) items e)))),
+      );
       at_hand = λ u. (
         (λ bit. subst (λ l. IsAtHand visits r l u) (sym items) ((visit-at_hand Old k v pos next u).1 (elim ((at_hand u).0 bit) [ inl i ↦ inl ((follows.at_hand u).0 i) | inr h ↦ inr (h.0, h.3) ]))),
-        (λ e. (at_hand u).1 (elim ((visit-at_hand Old k v pos next u).0 (subst (λ l. IsAtHand visits r l u) items e)) [ inl i ↦ inl ((follows.at_hand u).1 i) | inr h ↦ inr (h.0, (let s = follows.each_at_hand in omega (arith, inside, s)), few u.attr h.1, h.1) ])));
+        (λ e. (at_hand u).1 (elim ((visit-at_hand Old k v pos next u).0 (subst (λ l. IsAtHand visits r l u) items e)) [ inl i ↦ inl ((follows.at_hand u).1 i) | inr h ↦ inr (h.0, (let s = follows.each_at_hand in omega (arith, inside, s)), few u.attr h.1, h.1) ])),
+      );
       each_evaluated = ap (λ s. length s.items) evaluated ∙ follows.each_evaluated;
       each_at_hand = each ∙ follows.each_at_hand;
       each_made = ap (λ (l : List ℕ). length l) made ∙ (length-set p.made.items k v ∙ follows.each_made);
@@ -209,10 +215,12 @@ module _ (visits : List (List VisitClass)) (r : FlatRule) where
     follows-leave v items own few evaluated made each segment at_hand = record {
       evaluated = λ u. (
         (λ bit. subst (λ l. IsEvaluated l u) (sym items) ((leave-evaluated Old v u).1 ((follows.evaluated u).0 (subst (λ s. HasBit s.items u) evaluated bit)))),
-        (λ e. subst (λ s. HasBit s.items u) (sym evaluated) ((follows.evaluated u).1 ((leave-evaluated Old v u).0 (subst (λ l. IsEvaluated l u) items e)))));
+        (λ e. subst (λ s. HasBit s.items u) (sym evaluated) ((follows.evaluated u).1 ((leave-evaluated Old v u).0 (subst (λ l. IsEvaluated l u) items e)))),
+      );
       at_hand = λ u. (
         (λ bit. subst (λ l. IsAtHand visits r l u) (sym items) ((leave-at_hand Old v own u).1 (elim ((at_hand u).0 bit) [ inl i ↦ inl ((follows.at_hand u).0 i) | inr h ↦ inr (h.0, h.3) ]))),
-        (λ e. (at_hand u).1 (elim ((leave-at_hand Old v own u).0 (subst (λ l. IsAtHand visits r l u) items e)) [ inl i ↦ inl ((follows.at_hand u).1 i) | inr h ↦ inr (h.0, (let s = follows.each_at_hand in omega (arith, s)), few u.attr h.1, h.1) ])));
+        (λ e. (at_hand u).1 (elim ((leave-at_hand Old v own u).0 (subst (λ l. IsAtHand visits r l u) items e)) [ inl i ↦ inl ((follows.at_hand u).1 i) | inr h ↦ inr (h.0, (let s = follows.each_at_hand in omega (arith, s)), few u.attr h.1, h.1) ])),
+      );
       each_evaluated = ap (λ s. length s.items) evaluated ∙ follows.each_evaluated;
       each_at_hand = each ∙ follows.each_at_hand;
       each_made = ap (λ s. length s.items) made ∙ follows.each_made;

@@ -81,7 +81,8 @@ module _ (symbols : List FlatSymbol) (rules : List FlatRule) (shapes : List Shap
   follows-start p n more count items evaluated made segment each added has = record {
     evaluated = λ o. (
       (λ bit. absurd (zero-sets n o.occ o.attr.0 (subst (λ (l : List ℕ). HasBit l o) evaluated bit))),
-      (λ e. absurd (contains-nil (Eval o) (subst (λ l. IsEvaluated l o) items e))));
+      (λ e. absurd (contains-nil (Eval o) (subst (λ l. IsEvaluated l o) items e))),
+    );
     at_hand = λ o. ((λ bit. subst (λ l. IsAtHand visits r l o) (sym items) (forth o bit)), (λ h. back o (subst (λ l. IsAtHand visits r l o) items h)));
     each_evaluated = ap (λ (l : List ℕ). length l) evaluated ∙ (length-replicate {A = ℕ} n 0 ∙ count);
     each_at_hand = each ∙ count;
@@ -118,4 +119,4 @@ goals-push comps given i old new g c same inside is pushed goal so_far =
     let at : get_or comps i c ≡ c = ap (λ l. get_or l i c) (sym same) ∙ sym is in
     let l = ap (λ (l : List FlatComp). length l) same in
     ap (map (λ (x : Goal). x.goal)) pushed ∙ (map-append (λ (x : Goal). x.goal) old (g ∷ []) ∙ (ap (λ l. l ++ g.goal ∷ []) so_far ∙ (ap (λ o. map (λ (d : FlatComp). d.goal) (take i comps) ++ o ∷ []) (goal ∙ ap (λ (d : FlatComp). d.goal) (sym at))
-        ∙ (sym (map-append (λ (d : FlatComp). d.goal) (take i comps) (get_or comps i c ∷ [])) ∙ ap (map (λ (d : FlatComp). d.goal)) (sym (take_more comps i c (omega (arith, inside, l))))))))
+    ∙ (sym (map-append (λ (d : FlatComp). d.goal) (take i comps) (get_or comps i c ∷ [])) ∙ ap (map (λ (d : FlatComp). d.goal)) (sym (take_more comps i c (omega (arith, inside, l))))))))

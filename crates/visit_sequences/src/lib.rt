@@ -2,8 +2,12 @@
 #![tactic(auto)]
 
 mod bits;
+mod choice;
 mod goals;
 pub mod laws;
+mod plan;
 mod progress;
 mod reads;
 mod rows;
+
+pub use plan::sequences;

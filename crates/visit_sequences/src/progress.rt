@@ -77,7 +77,12 @@ fn synthesized(row: &[VisitClass], visit: usize) -> u128
 
 impl Progress {
     /// The progress before the first item.
-    pub fn start(alloc: Global, flat: &Flat, parts: &Parts, rule: &FlatRule) -> Result<Progress, Memory>
+    pub fn start(
+        alloc: Global,
+        flat: &Flat,
+        parts: &Parts,
+        rule: &FlatRule,
+    ) -> Result<Progress, Memory>
         requires visits { AreAllVisits flat.now.symbols flat.now.rules parts.now.visits }
         requires rule { Contains flat.now.rules rule.now }
         ensures none { IfOk result (λ progress. progress.items.items ≡ []) }
@@ -85,7 +90,11 @@ impl Progress {
     {
         let count = rule.right.len() + 1;
         let mut at_hand = empty_sets(alloc, count)?;
-        add(&mut at_hand, 0, inherited(row_at(parts.visits.as_slice(), rule, 0), 1));
+        add(
+            &mut at_hand,
+            0,
+            inherited(row_at(parts.visits.as_slice(), rule, 0), 1),
+        );
         Ok(Progress {
             items: Vec::new(alloc),
             evaluated: empty_sets(alloc, count)?,

@@ -17,11 +17,7 @@ pub fn symbol_at(rule: &FlatRule, occ: u16) -> Option<SymId>
 }
 
 /// The visits of the symbol at an occurrence of a rule, none where there is no symbol.
-pub fn row_at<'a>(
-    visits: &'a [List<VisitClass>],
-    rule: &FlatRule,
-    occ: u16,
-) -> &'a [VisitClass]
+pub fn row_at<'a>(visits: &'a [List<VisitClass>], rule: &FlatRule, occ: u16) -> &'a [VisitClass]
     ensures { result.now ≡ row_of visits.now rule.now occ }
 {
     let Some(symbol) = symbol_at(rule, occ) else {

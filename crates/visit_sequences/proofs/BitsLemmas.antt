@@ -1,8 +1,8 @@
 -- Sets of numbers as the bits of words: union, inclusion, order.
-use Rattle.std.specs.Prelude.{Contains, IsBitSet, nat_eq, bit_or, bit_and, max, ◌^◌, ◌*◌, IsTrue, true, ◌≢◌}
+use Rattle.std.specs.Prelude.{Contains, IsBitSet, bit_or, max, ◌^◌, ◌*◌}
 use Rattle.std.specs.Int.{bit_at}
-use Rattle.std.proofs.Common.{List, [], ◌∷◌, take, length, get_or, ◌≡◌, ℕ, zero, suc, ◌+◌, ◌<◌, ◌≤◌, ◌⊎◌, inl, inr, refl, sym, ap, subst, ◌∙◌, arith, eq-eqb, ◌↔◌}
-use Rattle.std.proofs.lemmas.Bool.{eqb-true, cases_lt}
+use Rattle.std.proofs.Common.{List, [], ◌∷◌, take, length, get_or, ◌≡◌, ℕ, zero, suc, ◌+◌, ◌<◌, ◌≤◌, ◌⊎◌, inl, inr, refl, sym, ap, subst, ◌∙◌, arith, ◌↔◌}
+use Rattle.std.proofs.lemmas.Bool.{cases_lt}
 use Rattle.std.proofs.lemmas.List.{take_more, take_all}
 use Rattle.std.proofs.lemmas.List.Elements.{Contains-append_left, Contains-push, Contains-push_cases}
 use Rattle.lido_base.specs.declared.ids.AttrId.{AttrId}

@@ -1,10 +1,9 @@
 -- What the tests of the progress say of the construction's choice.
 use Rattle.std.specs.Prelude.{All, Contains, slice_get, slice_index, map, IsSome, IsBitSet, ◌↔◌, MatchOption, take, IsTrue, IfOk}
-use Rattle.std.proofs.Common.{◌≡◌, ℕ, zero, suc, ◌<◌, ◌≤◌, ◌+◌, ◌⊎◌, inl, inr, List, [], ◌∷◌, length, get_or, Option, Some, None, Result, Ok, Err, true, false, refl, arith, ap, sym, subst, ◌∙◌}
+use Rattle.std.proofs.Common.{◌≡◌, ℕ, zero, suc, ◌<◌, ◌≤◌, ◌+◌, ◌⊎◌, inl, inr, List, [], ◌∷◌, length, get_or, Option, Some, None, Result, Ok, Err, refl, arith, ap, sym, subst, ◌∙◌}
 use Rattle.std.proofs.lemmas.Bool.{cases_lt}
 use Rattle.std.proofs.lemmas.Option.{slice_get_within, slice_get-get_or}
-use Rattle.std.proofs.lemmas.List.{take_all}
-use Rattle.std.proofs.lemmas.List.Elements.{All-contains, All-weaker, All-nil, All-more}
+use Rattle.std.proofs.lemmas.List.Elements.{All-contains, All-weaker, All-more}
 use Rattle.lido_base.specs.declared.ids.SymId.{SymId}
 use Rattle.lido_base.specs.declared.ids.AttrId.{AttrId}
 use Rattle.flat_grammar.specs.declared.flat.Occ.{Occ}
@@ -20,14 +19,14 @@ use Rattle.flat_grammar.specs.Rules.{symbol_at, symbols_of}
 use Rattle.flat_grammar.specs.WellFormed.{IsWellFormed}
 use Rattle.flat_grammar.specs.Dependencies.{DP, IDS}
 use Rattle.flat_grammar.specs.Cycles.{EDP, direct, induced, partition, IsAtMost}
-use Rattle.flat_grammar.specs.Partition.{IsEarlier, AreVisits, AreAllVisits}
-use Rattle.flat_grammar.specs.SoundPlan.{goals_of, segment_after, visits_made, IsEvaluated, IsEvaluatedAll, IsClassAt, IsAtHand}
-use Rattle.flat_grammar.specs.Construction.{IsLeft, IsReady, IsNext, IsOfUse, IsReadyVisit, IsLastSegment, IsOwing, HasReady, HasReadyVisit, HasNext, IsChosen, evaluation, ready_visit, next_visit, leave}
+use Rattle.flat_grammar.specs.Partition.{IsEarlier, AreAllVisits}
+use Rattle.flat_grammar.specs.SoundPlan.{goals_of, segment_after, IsEvaluated, IsEvaluatedAll, IsClassAt, IsAtHand}
+use Rattle.flat_grammar.specs.Construction.{IsReady, IsNext, IsReadyVisit, IsLastSegment, IsOwing, HasReady, HasReadyVisit, HasNext, IsChosen, evaluation, ready_visit, next_visit, leave}
 use Rattle.flat_grammar.proofs.Lists.{held, contains-nil, contains-cons, contains-first, contains-later}
 use Rattle.visit_sequences.specs.declared.goals.Goal.{Goal}
 use Rattle.visit_sequences.specs.declared.progress.Progress.{Progress}
-use Rattle.visit_sequences.specs.Steps.{row_of, IsBefore, IsGoal, AreGoals, HasBit, Follows, IsOpen, HasAll, OwesClass, HasLeft, IsOfUseFrom, IsReadyAt, IsNextAt, Owes, IsLeastChild, IsNoChild}
-use Rattle.visit_sequences.proofs.ClosedWalks.{all-from_each, at_most-further}
+use Rattle.visit_sequences.specs.Steps.{row_of, IsBefore, IsGoal, AreGoals, HasBit, Follows, IsOpen, HasAll, IsReadyAt, IsNextAt, Owes, IsLeastChild, IsNoChild}
+use Rattle.visit_sequences.proofs.ClosedWalks.{at_most-further}
 use Rattle.visit_sequences.proofs.Classes.{row-there}
 use Rattle.visit_sequences.proofs.BitsLemmas.{taken-more, taken-here}
 use Rattle.visit_sequences.proofs.Occurrences.{rule-is}

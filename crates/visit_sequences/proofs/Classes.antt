@@ -1,9 +1,9 @@
 -- Each attribute of a symbol stands in a class of its visits, and the classes are ordered as the visits are.
 use Rattle.std.specs.Prelude.{Contains, slice_get, option_and_then, is_some, IsSome, IsTrue, not, ◌*◌}
-use Rattle.std.proofs.Common.{◌≡◌, ℕ, zero, suc, ◌<◌, ◌≤◌, ◌+◌, ◌-◌, ◌⊎◌, inl, inr, List, [], ◌∷◌, length, reverse, get_or, Option, Some, None, Bool, true, false, true≢false, refl, arith, ap, sym, subst, ◌∙◌}
+use Rattle.std.proofs.Common.{◌≡◌, ℕ, zero, suc, ◌<◌, ◌≤◌, ◌+◌, ◌-◌, ◌⊎◌, inl, inr, List, [], ◌∷◌, length, reverse, get_or, Option, Some, None, true≢false, refl, arith, ap, sym, subst, ◌∙◌}
 use Rattle.std.proofs.lemmas.Bool.{cases_order}
 use Rattle.std.proofs.lemmas.List.{get_or-reverse, length-reverse}
-use Rattle.std.proofs.lemmas.Option.{none-some, slice_get_within, slice_get-get_or, get_or_from_slice_get, slice_get_cases}
+use Rattle.std.proofs.lemmas.Option.{slice_get_within, slice_get-get_or, get_or_from_slice_get, slice_get_cases}
 use Rattle.std.proofs.lemmas.List.Elements.{All-contains}
 use Rattle.lido_base.specs.declared.ids.SymId.{SymId}
 use Rattle.lido_base.specs.declared.ids.AttrId.{AttrId}
@@ -17,8 +17,8 @@ use Rattle.flat_grammar.specs.declared.flat.Shape.{Shape}
 use Rattle.flat_grammar.specs.declared.plan.VisitClass.{VisitClass}
 use Rattle.flat_grammar.specs.Rules.{attribute_at}
 use Rattle.flat_grammar.specs.WellFormed.{IsWellFormed, is_nonterminal, is_nonterminal_symbol}
-use Rattle.flat_grammar.specs.Partition.{HasKind, IsPeeled, IsInClass, IsEarlier, IsClass, AreVisits, AreAllVisits, kind_of_class}
-use Rattle.flat_grammar.proofs.Lists.{held, contains-nil, contains-cons, contains-first, contains-later, contains-slice_get}
+use Rattle.flat_grammar.specs.Partition.{HasKind, IsPeeled, IsEarlier, IsClass, AreVisits, AreAllVisits, kind_of_class}
+use Rattle.flat_grammar.proofs.Lists.{contains-nil, contains-cons, contains-first, contains-later, contains-slice_get}
 use Rattle.flat_grammar.proofs.PartitionLemmas.{IsPeeled-grows, IsInClass-kind}
 
 pub value_in : {A : Type 0} (o : Option A) → IsSome o → (x : A) × (o ≡ Some x)

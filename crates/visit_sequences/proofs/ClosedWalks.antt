@@ -1,15 +1,15 @@
 -- Without cycles no walk comes back, so what always has a predecessor is nowhere.
 use Rattle.std.specs.Prelude.{Contains, All, AllPairs}
-use Rattle.std.proofs.Common.{◌≡◌, ℕ, zero, suc, ◌<◌, ◌≤◌, ◌+◌, ◌⊎◌, inl, inr, List, [], ◌∷◌, ◌++◌, length, refl, arith, ap, sym, subst, ◌∙◌, append_assoc, length-append}
+use Rattle.std.proofs.Common.{◌≡◌, ℕ, zero, suc, ◌<◌, ◌≤◌, ◌⊎◌, inl, inr, List, [], ◌∷◌, ◌++◌, length, refl, arith, ap, sym, subst, ◌∙◌, append_assoc, length-append}
 use Rattle.std.proofs.lemmas.Bool.{cases_order}
-use Rattle.std.proofs.lemmas.List.Elements.{Contains-get_or, Contains-push, Contains-push_cases, Contains-append_left, Contains-append_right, Contains-append_cases}
+use Rattle.std.proofs.lemmas.List.Elements.{Contains-get_or, Contains-push_cases, Contains-append_left, Contains-append_right, Contains-append_cases}
 use Rattle.std.proofs.lemmas.List.Kept.{AllPairs-cons}
 use Rattle.flat_grammar.specs.declared.flat.Occ.{Occ}
 use Rattle.flat_grammar.specs.declared.flat.FlatSymbol.{FlatSymbol}
 use Rattle.flat_grammar.specs.declared.flat.FlatRule.{FlatRule}
 use Rattle.flat_grammar.specs.declared.plan.CycleStep.{CycleStep}
 use Rattle.flat_grammar.specs.declared.plan.Label.{Label}
-use Rattle.flat_grammar.specs.Cycles.{EDP, IsAtMost, IsWalk, IsCycle, IsAcyclic}
+use Rattle.flat_grammar.specs.Cycles.{EDP, IsAtMost, IsWalk, IsAcyclic}
 use Rattle.flat_grammar.proofs.Lists.{contains-nil, contains-cons, contains-first, contains-later}
 
 pub all-from_each : {X : Type 0} (P : X → Type 0) (xs : List X) → ((x : X) → Contains xs x → P x) → All P xs

@@ -1,6 +1,6 @@
 -- What comes before an attribute, by the classes that pass and by the rows of induced dependencies.
 use Rattle.std.specs.Prelude.{All, Contains, slice_get, IsSome, IsBitSet, option_map, option_and_then, ◌*◌, ◌↔◌}
-use Rattle.std.proofs.Common.{◌≡◌, ℕ, zero, suc, ◌<◌, ◌≤◌, ◌+◌, ◌⊎◌, inl, inr, List, [], ◌∷◌, map, length, get_or, Option, Some, None, false, true≢false, refl, arith, ap, sym, subst, ◌∙◌}
+use Rattle.std.proofs.Common.{◌≡◌, ℕ, suc, ◌<◌, ◌≤◌, ◌+◌, ◌⊎◌, inl, inr, List, [], length, get_or, Option, Some, None, true≢false, refl, arith, ap, sym, subst, ◌∙◌}
 use Rattle.std.proofs.lemmas.Bool.{cases_order, cases_lt}
 use Rattle.std.proofs.lemmas.Option.{none-some, slice_get_within, slice_get_cases, slice_get-map}
 use Rattle.std.proofs.lemmas.List.Elements.{All-contains}
@@ -16,9 +16,9 @@ use Rattle.flat_grammar.specs.WellFormed.{IsWellFormed, IsRule, attribute_of}
 use Rattle.flat_grammar.specs.declared.flat.FlatComp.{FlatComp}
 use Rattle.std.proofs.lemmas.List.{get_or_default}
 use Rattle.flat_grammar.specs.Dependencies.{DP, IDS, AreInducedRows}
-use Rattle.flat_grammar.specs.Partition.{IsPeeled, IsInClass, IsEarlier, AreVisits, AreAllVisits}
+use Rattle.flat_grammar.specs.Partition.{IsInClass, IsEarlier, AreVisits, AreAllVisits}
 use Rattle.flat_grammar.proofs.Lists.{held, contains-slice_get}
-use Rattle.flat_grammar.proofs.PartitionLemmas.{IsPeeled-grows, IsInClass-kind}
+use Rattle.flat_grammar.proofs.PartitionLemmas.{IsPeeled-grows}
 use Rattle.visit_sequences.specs.Steps.{row_of, LacksBefore, PassedBefore, StandsBefore, IsBefore}
 use Rattle.visit_sequences.proofs.Classes.{value_in, some-is, attribute-nonterminal, row-there, classes-of, stands, synthesized-kind, inherited-kind}
 use Rattle.visit_sequences.proofs.Occurrences.{symbol-there, IDS-attribute}

@@ -1,9 +1,9 @@
 -- Each item that is chosen leaves less to do, and the items make the rule's sequence.
-use Rattle.std.specs.Prelude.{Contains, slice_get, option_and_then, unwrap_or, count_by, map, take, IsTrue, ◌||◌, ◌-◌, nat_eq}
+use Rattle.std.specs.Prelude.{Contains, slice_get, unwrap_or, map, take, ◌-◌}
 use Rattle.std.specs.List.{list_any, AllZip}
-use Rattle.std.proofs.Common.{◌≡◌, ℕ, zero, suc, ◌<◌, ◌≤◌, ◌+◌, ◌⊎◌, inl, inr, List, [], ◌∷◌, ◌++◌, length, get_or, Option, Some, None, Bool, true, false, true≢false, cond, refl, arith, ap, sym, subst, ◌∙◌, length-append}
+use Rattle.std.proofs.Common.{◌≡◌, ℕ, zero, suc, ◌<◌, ◌≤◌, ◌+◌, ◌⊎◌, inl, inr, List, [], ◌∷◌, ◌++◌, length, get_or, Option, Some, Bool, true, false, true≢false, cond, refl, arith, ap, sym, subst, ◌∙◌, length-append}
 use Rattle.std.proofs.Math.Seq.{take-append_seam}
-use Rattle.std.proofs.lemmas.Bool.{cases_Bool, cases_lt, cases_order, or_cases, or_left, or_right, false_from_ne_true}
+use Rattle.std.proofs.lemmas.Bool.{cases_order, or_cases, or_left, or_right, false_from_ne_true}
 use Rattle.std.proofs.lemmas.Option.{none-some, slice_get_within}
 use Rattle.std.proofs.lemmas.List.{take-append-le, take_more}
 use Rattle.std.proofs.lemmas.List.Folds.{list_any-append}
@@ -16,13 +16,13 @@ use Rattle.flat_grammar.specs.declared.plan.VisitClass.{VisitClass}
 use Rattle.flat_grammar.specs.declared.plan.PlanItem.{PlanItem}
 use Rattle.flat_grammar.specs.declared.plan.PlanItem.TheVariants.{Eval, Visit, Leave}
 use Rattle.flat_grammar.specs.WellFormed.{is_same_occ}
-use Rattle.flat_grammar.specs.SoundPlan.{goals_of, segment_after, visits_made, IsEvaluated, IsClassAt}
-use Rattle.flat_grammar.specs.Construction.{IsNext, IsChosen, evaluation, ready_visit, next_visit, leave, IsConstructed}
+use Rattle.flat_grammar.specs.SoundPlan.{segment_after, visits_made, IsEvaluated, IsClassAt}
+use Rattle.flat_grammar.specs.Construction.{IsNext, IsChosen, evaluation, IsConstructed}
 use Rattle.flat_grammar.proofs.Lists.{held, contains-nil, contains-cons, contains-first, contains-later}
 use Rattle.visit_sequences.specs.Steps.{row_of}
 use Rattle.visit_sequences.proofs.Occurrences.{same-itself, same-occurrence}
-use Rattle.visit_sequences.proofs.Soundness.{leave-is, visit-next, visits-append}
-use Rattle.visit_sequences.proofs.StepLemmas.{class-row, visit-counts_same, visit-counts_other, leave-segment, eval-segment, visit-segment, made-kept, segment-kept}
+use Rattle.visit_sequences.proofs.Soundness.{leave-is, visit-next}
+use Rattle.visit_sequences.proofs.StepLemmas.{visit-counts_same, leave-segment, eval-segment, visit-segment, made-kept, segment-kept}
 
 abbrev is_evaluation_of : Occ → PlanItem → Bool
 is_evaluation_of o (Eval p) = is_same_occ p o

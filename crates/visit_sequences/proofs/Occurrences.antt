@@ -1,13 +1,12 @@
 -- The attribute occurrences of a rule: its goals, those on which something depends, and the list of all.
-use Rattle.std.specs.Prelude.{All, Contains, slice_get, option_and_then, is_some, IsSome, IsTrue, not, ◌&&◌, ◌||◌, ◌==◌}
+use Rattle.std.specs.Prelude.{All, Contains, slice_get, option_and_then, is_some, IsSome, IsTrue, not, ◌==◌}
 use Rattle.std.specs.List.{list_any}
-use Rattle.std.proofs.Common.{◌≡◌, ℕ, zero, suc, ◌<◌, ◌≤◌, ◌+◌, ◌⊎◌, inl, inr, List, [], ◌∷◌, ◌++◌, map, length, Option, Some, None, Bool, true, false, true≢false, refl, arith, ap, sym, subst, ◌∙◌}
-use Rattle.std.proofs.lemmas.Bool.{cases_order, and_from, and_parts, or_cases, or_left, or_right, eqb-true, eq-eqb}
+use Rattle.std.proofs.Common.{◌≡◌, ℕ, zero, suc, ◌<◌, ◌+◌, inl, inr, List, [], ◌∷◌, ◌++◌, map, Option, Some, None, true, true≢false, refl, arith, ap, sym, subst, ◌∙◌}
+use Rattle.std.proofs.lemmas.Bool.{and_from, and_parts, or_cases, or_left, or_right, eqb-true, eq-eqb}
 use Rattle.std.proofs.lemmas.Option.{none-some}
 use Rattle.std.proofs.lemmas.List.Elements.{All-contains, Contains-append_left, Contains-append_right}
 use Rattle.lido_base.specs.declared.ids.SymId.{SymId}
 use Rattle.lido_base.specs.declared.ids.AttrId.{AttrId}
-use Rattle.lido_base.specs.declared.kinds.Kind.{Kind}
 use Rattle.lido_base.specs.declared.kinds.Kind.TheVariants.{Synthesized, Inherited}
 use Rattle.flat_grammar.specs.declared.flat.Occ.{Occ}
 use Rattle.flat_grammar.specs.declared.flat.FlatSymbol.{FlatSymbol}
@@ -23,7 +22,7 @@ use Rattle.flat_grammar.specs.Cycles.{EDP, direct as direct_edge, induced as ind
 use Rattle.flat_grammar.specs.Partition.{HasKind}
 use Rattle.flat_grammar.specs.SoundPlan.{goals_of}
 use Rattle.flat_grammar.proofs.Lists.{held, contains-nil, contains-cons, contains-first, contains-later}
-use Rattle.visit_sequences.proofs.Classes.{value_in, some-is}
+use Rattle.visit_sequences.proofs.Classes.{value_in}
 
 pub same-itself : (o : Occ) → is_same_occ o o ≡ true
 same-itself o = and_from (o.occ == o.occ) (o.attr.0 == o.attr.0) (eq-eqb o.occ o.occ refl) (eq-eqb o.attr.0 o.attr.0 refl)

@@ -1,5 +1,5 @@
 -- The constructed sequences of all rules are a sound plan.
-use Rattle.std.specs.Prelude.{Contains, All}
+use Rattle.std.specs.Prelude.{Contains}
 use Rattle.std.specs.List.{AllZip}
 use Rattle.std.proofs.Common.{◌≡◌, ℕ, List, [], ◌∷◌, length, sym, ap}
 use Rattle.std.proofs.lemmas.List.Elements.{All-contains}

@@ -1,13 +1,12 @@
 -- Where the extended dependencies have no cycle, the construction never stands still before its visit is done.
-use Rattle.std.specs.Prelude.{All, Contains, slice_get, is_some, IsSome, IsTrue}
-use Rattle.std.proofs.Common.{◌≡◌, ℕ, zero, suc, ◌<◌, ◌≤◌, ◌+◌, ◌⊎◌, inl, inr, List, [], ◌∷◌, length, get_or, Option, Some, None, Bool, true, false, true≢false, refl, arith, ap, sym, subst, ◌∙◌}
+use Rattle.std.specs.Prelude.{Contains, slice_get, IsSome}
+use Rattle.std.proofs.Common.{◌≡◌, ℕ, suc, ◌<◌, ◌≤◌, ◌⊎◌, inl, inr, List, [], ◌∷◌, length, get_or, Some, None, Bool, true, false, true≢false, refl, arith, ap, sym, subst, ◌∙◌}
 use Rattle.std.proofs.lemmas.Bool.{cases_order, cases_lt}
 use Rattle.std.proofs.lemmas.Option.{none-some, slice_get_within, slice_get_cases}
 use Rattle.std.proofs.lemmas.List.Elements.{All-contains}
 use Rattle.lido_base.specs.declared.ids.SymId.{SymId}
 use Rattle.lido_base.specs.declared.ids.AttrId.{AttrId}
-use Rattle.lido_base.specs.declared.kinds.Kind.{Kind}
-use Rattle.lido_base.specs.declared.kinds.Kind.TheVariants.{Synthesized, Inherited}
+use Rattle.lido_base.specs.declared.kinds.Kind.TheVariants.{Synthesized}
 use Rattle.flat_grammar.specs.declared.flat.Occ.{Occ}
 use Rattle.flat_grammar.specs.declared.flat.FlatSymbol.{FlatSymbol}
 use Rattle.flat_grammar.specs.declared.flat.FlatRule.{FlatRule}
@@ -24,10 +23,10 @@ use Rattle.flat_grammar.specs.Dependencies.{DP, IDS}
 use Rattle.flat_grammar.specs.Cycles.{EDP, direct, induced, partition, IsAcyclic}
 use Rattle.flat_grammar.specs.Partition.{HasKind, IsEarlier, AreVisits, AreAllVisits}
 use Rattle.flat_grammar.specs.SoundPlan.{goals_of, segment_after, visits_made, IsEvaluated, IsEvaluatedAll, IsClassAt, IsAtHand}
-use Rattle.flat_grammar.specs.Construction.{IsLeft, IsReady, IsNext, IsOfUse, IsReadyVisit, IsLastSegment, IsOwing, HasReady, HasReadyVisit}
+use Rattle.flat_grammar.specs.Construction.{IsLeft, IsOfUse, IsReadyVisit, IsLastSegment, HasReady}
 use Rattle.flat_grammar.proofs.Lists.{held, contains-nil, contains-cons, contains-first, contains-later}
 use Rattle.visit_sequences.proofs.ClosedWalks.{start, Distinct, Leads, same_occ-or, all-from_each, no-closed_walk, nowhere}
-use Rattle.visit_sequences.proofs.Classes.{contains-or, some-is, value_in, attribute-nonterminal, row-there, synthesized-kind, inherited-kind, inherited-before, synthesized-before, stands}
+use Rattle.visit_sequences.proofs.Classes.{contains-or, some-is, attribute-nonterminal, row-there, synthesized-kind, inherited-kind, inherited-before, synthesized-before, stands}
 use Rattle.visit_sequences.proofs.Occurrences.{symbol-there, attribute-is, vertices, vertex-there, goal-attribute, left-goal, right-goal, edge-attribute}
 
 -- what an evaluation evaluates

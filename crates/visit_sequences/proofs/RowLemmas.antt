@@ -1,10 +1,10 @@
 -- The visits of the partition are right rows of visits.
-use Rattle.std.specs.Prelude.{Contains, AllPairs, slice_get, is_some, IsSome, IsTrue, IsFalse, nat_eq, flat_map, not}
+use Rattle.std.specs.Prelude.{Contains, AllPairs, slice_get, is_some, IsTrue, IsFalse, flat_map, not}
 use Rattle.std.specs.List.{AllZip}
 use Rattle.std.specs.List.Sorted.{IsStrictlyIncreasing}
-use Rattle.std.proofs.Common.{◌≡◌, ℕ, zero, suc, ◌<◌, ◌≤◌, ◌+◌, ◌*◌, ◌⊎◌, inl, inr, List, [], ◌∷◌, ◌++◌, length, map, get_or, Option, Some, None, Bool, true, false, true≢false, refl, arith, ap, sym, subst, ◌∙◌}
-use Rattle.std.proofs.lemmas.Bool.{cases_order, cases_Bool, eq-eqb, ne_eqb}
-use Rattle.std.proofs.lemmas.Option.{none-some, slice_get_within, slice_get_cases}
+use Rattle.std.proofs.Common.{◌≡◌, ℕ, zero, suc, ◌<◌, ◌+◌, ◌*◌, ◌⊎◌, inl, inr, List, [], ◌∷◌, ◌++◌, length, map, get_or, Option, Some, None, true≢false, refl, arith, ap, sym, subst, ◌∙◌}
+use Rattle.std.proofs.lemmas.Bool.{ne_eqb}
+use Rattle.std.proofs.lemmas.Option.{none-some}
 use Rattle.std.proofs.lemmas.List.Elements.{Contains-get_or, Contains-append_left, Contains-append_right, Contains-append_cases}
 use Rattle.std.proofs.lemmas.List.Kept.{AllPairs-from_increasing, AllPairs-cons}
 use Rattle.lido_base.specs.declared.ids.SymId.{SymId}
@@ -18,9 +18,9 @@ use Rattle.flat_grammar.specs.declared.flat.Shape.{Shape}
 use Rattle.flat_grammar.specs.declared.plan.VisitClass.{VisitClass}
 use Rattle.flat_grammar.specs.Rules.{attribute_at}
 use Rattle.flat_grammar.specs.WellFormed.{IsWellFormed, is_nonterminal, is_nonterminal_symbol, is_synthesized}
-use Rattle.flat_grammar.specs.Partition.{HasKind, IsInClass, IsClass, AreVisits, AreAllVisits}
+use Rattle.flat_grammar.specs.Partition.{HasKind, IsInClass, AreVisits, AreAllVisits}
 use Rattle.flat_grammar.specs.SoundPlan.{of_kind, IsAttribute, IsRow}
-use Rattle.flat_grammar.proofs.Lists.{held, contains-nil, contains-cons, contains-first, contains-later, contains-slice_get, slice_get-contains}
+use Rattle.flat_grammar.proofs.Lists.{held, contains-nil, contains-first, contains-later, contains-slice_get}
 use Rattle.flat_grammar.proofs.PartitionLemmas.{IsInClass-once}
 use Rattle.visit_sequences.proofs.ClosedWalks.{all-from_each}
 use Rattle.visit_sequences.proofs.Classes.{some-is, synthesized-kind, inherited-kind, classes-of, stands}

@@ -1,9 +1,9 @@
 -- Where the extended dependencies have no cycle, a constructed sequence is sound.
-use Rattle.std.specs.Prelude.{All, Contains, slice_get, is_some, IsSome, IsTrue, count_by, nat_eq, take}
-use Rattle.std.proofs.Common.{◌≡◌, ℕ, zero, suc, ◌<◌, ◌≤◌, ◌+◌, ◌⊎◌, inl, inr, List, [], ◌∷◌, ◌++◌, length, drop, get_or, Option, Some, None, Bool, true, false, cond, refl, arith, ap, sym, subst, ◌∙◌, length-append}
+use Rattle.std.specs.Prelude.{Contains, slice_get, count_by, nat_eq, take}
+use Rattle.std.proofs.Common.{◌≡◌, ℕ, zero, suc, ◌<◌, ◌≤◌, ◌+◌, ◌⊎◌, inl, inr, List, [], ◌∷◌, ◌++◌, length, drop, get_or, Some, None, true, cond, refl, arith, ap, sym, subst, ◌∙◌, length-append}
 use Rattle.std.proofs.Math.Seq.{take-append_seam}
 use Rattle.std.proofs.lemmas.Bool.{cases_lt, eqb-true, cases_Bool}
-use Rattle.std.proofs.lemmas.Option.{none-some, slice_get_within, slice_get_cases, slice_get-get_or}
+use Rattle.std.proofs.lemmas.Option.{slice_get_within, slice_get_cases, slice_get-get_or}
 use Rattle.std.proofs.lemmas.List.{take_all, take_more, take-append-le, take-append-drop}
 use Rattle.std.proofs.lemmas.List.Elements.{All-contains, Contains-append_left}
 use Rattle.std.proofs.lemmas.List.Sums.{sum_by-append, sum_by-cons}
@@ -12,18 +12,17 @@ use Rattle.lido_base.specs.declared.ids.AttrId.{AttrId}
 use Rattle.flat_grammar.specs.declared.flat.Occ.{Occ}
 use Rattle.flat_grammar.specs.declared.flat.FlatSymbol.{FlatSymbol}
 use Rattle.flat_grammar.specs.declared.flat.FlatRule.{FlatRule}
-use Rattle.flat_grammar.specs.declared.flat.FlatComp.{FlatComp}
 use Rattle.flat_grammar.specs.declared.flat.Shape.{Shape}
 use Rattle.flat_grammar.specs.declared.plan.Label.TheVariants.{Direct}
 use Rattle.flat_grammar.specs.declared.plan.VisitClass.{VisitClass}
 use Rattle.flat_grammar.specs.declared.plan.PlanItem.{PlanItem}
 use Rattle.flat_grammar.specs.declared.plan.PlanItem.TheVariants.{Eval, Visit, Leave}
 use Rattle.flat_grammar.specs.Rules.{symbol_at, dependencies}
-use Rattle.flat_grammar.specs.WellFormed.{IsWellFormed, is_nonterminal}
+use Rattle.flat_grammar.specs.WellFormed.{IsWellFormed}
 use Rattle.flat_grammar.specs.Cycles.{direct, IsAcyclic}
 use Rattle.flat_grammar.specs.Partition.{AreVisits, AreAllVisits}
 use Rattle.flat_grammar.specs.SoundPlan.{goals_of, is_leave, is_visit_of, segment_after, visits_made, IsEvaluated, IsEvaluatedAll, IsClassAt, IsAtHand, Allows, AllowsNext, AllowsEnd, IsSoundSequence}
-use Rattle.flat_grammar.specs.Construction.{IsNext, IsReadyVisit, IsLastSegment, IsOwing, HasReady, HasReadyVisit, HasNext, IsChosen, evaluation, ready_visit, next_visit, leave, IsConstructed}
+use Rattle.flat_grammar.specs.Construction.{IsNext, IsLastSegment, HasReady, HasReadyVisit, HasNext, IsChosen, evaluation, ready_visit, next_visit, leave, IsConstructed}
 use Rattle.flat_grammar.proofs.Lists.{held}
 use Rattle.visit_sequences.proofs.ClosedWalks.{all-from_each}
 use Rattle.visit_sequences.proofs.Classes.{row-there, inherited-kind}

@@ -1,7 +1,7 @@
 -- What one more item gives.
-use Rattle.std.specs.Prelude.{Contains, slice_get, slice_index, slice_set, count_by, option_and_then, unwrap_or, nat_eq, IsBitSet, ◌↔◌}
-use Rattle.std.proofs.Common.{◌≡◌, ℕ, zero, suc, ◌<◌, ◌≤◌, ◌+◌, ◌⊎◌, inl, inr, List, [], ◌∷◌, ◌++◌, length, set, Option, Some, None, Bool, true, false, true≢false, cond, refl, arith, ap, sym, subst, ◌∙◌}
-use Rattle.std.proofs.lemmas.Bool.{cases_order, cases_lt, cases_eq, eq-eqb, ne_eqb}
+use Rattle.std.specs.Prelude.{slice_get, slice_index, slice_set, count_by, option_and_then, unwrap_or, nat_eq, ◌↔◌}
+use Rattle.std.proofs.Common.{◌≡◌, ℕ, zero, suc, ◌<◌, ◌≤◌, ◌+◌, ◌⊎◌, inl, inr, List, [], ◌∷◌, ◌++◌, length, Option, Some, None, true≢false, cond, refl, arith, ap, sym, subst, ◌∙◌}
+use Rattle.std.proofs.lemmas.Bool.{cases_lt, cases_eq, eq-eqb, ne_eqb}
 use Rattle.std.proofs.lemmas.Option.{none-some}
 use Rattle.std.proofs.lemmas.List.{get_or-set_same, get_or-set_other, length-set}
 use Rattle.std.proofs.lemmas.List.Elements.{Contains-append_left, Contains-push, Contains-push_cases}
@@ -15,7 +15,6 @@ use Rattle.flat_grammar.specs.declared.plan.PlanItem.{PlanItem}
 use Rattle.flat_grammar.specs.declared.plan.PlanItem.TheVariants.{Eval, Visit, Leave}
 use Rattle.flat_grammar.specs.Rules.{symbol_at, symbols_of}
 use Rattle.flat_grammar.specs.SoundPlan.{is_leave, is_visit_of, segment_after, visits_made, IsEvaluated, IsClassAt, IsAtHand}
-use Rattle.flat_grammar.proofs.Lists.{held}
 use Rattle.visit_sequences.specs.declared.progress.Progress.{Progress}
 use Rattle.visit_sequences.specs.Steps.{row_of, PassesIn, HasBit, Evaluates, Passes, Follows}
 use Rattle.visit_sequences.proofs.ProgressLemmas.{evaluated-by, is_evaluation}

@@ -1,6 +1,6 @@
 -- The progress follows the item that is chosen.
 use Rattle.std.specs.Prelude.{Contains, slice_get, slice_index, replicate, IsSome, IsBitSet, ◌↔◌, map, take}
-use Rattle.std.proofs.Common.{◌≡◌, ℕ, zero, suc, ◌<◌, ◌≤◌, ◌+◌, ◌⊎◌, inl, inr, List, [], ◌∷◌, ◌++◌, length, get_or, Some, None, refl, arith, ap, sym, subst, ◌∙◌}
+use Rattle.std.proofs.Common.{◌≡◌, ℕ, zero, suc, ◌<◌, ◌+◌, ◌⊎◌, inl, inr, List, [], ◌∷◌, ◌++◌, length, get_or, arith, ap, sym, subst, ◌∙◌}
 use Rattle.std.proofs.lemmas.Bool.{cases_lt}
 use Rattle.std.proofs.lemmas.Option.{slice_get_within}
 use Rattle.std.proofs.lemmas.List.{get_or-replicate, length-replicate, map-append, take_more, get_or_past}
@@ -18,8 +18,8 @@ use Rattle.flat_grammar.specs.Rules.{symbols_of}
 use Rattle.flat_grammar.specs.WellFormed.{IsWellFormed, attribute_of}
 use Rattle.flat_grammar.specs.Partition.{AreAllVisits}
 use Rattle.flat_grammar.specs.SoundPlan.{goals_of, segment_after, visits_made, IsEvaluated, IsClassAt, IsAtHand}
-use Rattle.flat_grammar.specs.Construction.{IsChosen, evaluation, ready_visit, next_visit, leave}
-use Rattle.flat_grammar.proofs.Lists.{held, contains-nil}
+use Rattle.flat_grammar.specs.Construction.{IsChosen, evaluation}
+use Rattle.flat_grammar.proofs.Lists.{contains-nil}
 use Rattle.visit_sequences.specs.declared.goals.Goal.{Goal}
 use Rattle.visit_sequences.specs.declared.progress.Progress.{Progress}
 use Rattle.visit_sequences.specs.Steps.{row_of, PassesIn, HasBit, HasBitsOf, Adds, Evaluates, Passes, Follows}

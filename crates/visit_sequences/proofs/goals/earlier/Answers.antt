@@ -1,7 +1,6 @@
-use Rattle.std.specs.Prelude.{Contains, slice_get, IsBitSet, ◌↔◌}
-use Rattle.std.proofs.Common.{◌≡◌, ◌<◌, ◌∙◌, Some, ap, sym, subst, true≢false}
+use Rattle.std.specs.Prelude.{slice_get}
+use Rattle.std.proofs.Common.{◌≡◌, ◌∙◌, Some, ap, sym, subst, true≢false}
 use Rattle.std.proofs.lemmas.Option.{slice_get-get_or}
-use Rattle.lido_base.specs.declared.ids.AttrId.{AttrId}
 use Rattle.visit_sequences.proofs.GoalLemmas.{HasMembers, inherited-return, synthesized-return, next-lacks, next-passed, end-return}
 use Rattle.visit_sequences.proofs.goals.earlier.Goals as goal
 

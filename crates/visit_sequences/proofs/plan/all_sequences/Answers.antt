@@ -1,4 +1,4 @@
-use Rattle.std.proofs.Common.{◌≡◌, ◌<◌, ◌∙◌, List, ap, sym, subst, length, get_or, arith}
+use Rattle.std.proofs.Common.{◌<◌, ◌∙◌, List, ap, length, get_or, arith}
 use Rattle.flat_grammar.specs.declared.flat.FlatRule.{FlatRule}
 use Rattle.flat_grammar.specs.Construction.{IsConstructed}
 use Rattle.visit_sequences.proofs.MeasureLemmas.{zip-more}

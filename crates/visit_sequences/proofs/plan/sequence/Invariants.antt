@@ -1,4 +1,3 @@
-use Rattle.std.specs.Prelude.{ℕ}
 use Rattle.std.proofs.Common.{◌≤◌, length}
 use Rattle.flat_grammar.specs.SoundPlan.{segment_after}
 use Rattle.visit_sequences.specs.Steps.{row_of, Follows}

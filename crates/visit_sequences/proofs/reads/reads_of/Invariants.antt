@@ -1,5 +1,5 @@
 use Rattle.std.specs.Prelude.{Contains, ◌↔◌, ◌⊎◌}
-use Rattle.std.proofs.Common.{◌≡◌, map, flat_map, sum_by}
+use Rattle.std.proofs.Common.{map, flat_map, sum_by}
 use Rattle.flat_grammar.specs.declared.flat.Occ.{Occ}
 use Rattle.flat_grammar.specs.Rules.{reads}
 use Rattle.visit_sequences.specs.Expressions.{weight}

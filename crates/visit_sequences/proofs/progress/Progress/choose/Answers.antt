@@ -1,8 +1,6 @@
 use Rattle.std.specs.Prelude.{slice_index, length}
-use Rattle.std.proofs.Common.{◌≡◌, List, suc, subst, sym}
-use Rattle.flat_grammar.specs.declared.plan.PlanItem.{PlanItem}
+use Rattle.std.proofs.Common.{◌≡◌, suc, subst}
 use Rattle.flat_grammar.specs.declared.plan.PlanItem.TheVariants.{Visit}
-use Rattle.flat_grammar.specs.declared.plan.VisitClass.{VisitClass}
 use Rattle.flat_grammar.specs.Construction.{IsChosen}
 use Rattle.visit_sequences.specs.Steps.{row_of, IsLeastChild, IsNoChild, IsNextAt, IsReadyAt, Owes}
 use Rattle.visit_sequences.proofs.ChoiceLemmas.{if_ok-then, chosen-evaluation, chosen-ready, chosen-next, chosen-leave}

@@ -1,5 +1,5 @@
 use Rattle.std.specs.Prelude.{All}
-use Rattle.std.proofs.Common.{◌≡◌, true, refl, subst, ap}
+use Rattle.std.proofs.Common.{◌≡◌, true, refl, subst}
 use Rattle.std.proofs.lemmas.List.{take_all}
 use Rattle.std.proofs.lemmas.List.Elements.{All-more}
 use Rattle.lido_base.specs.declared.ids.AttrId.{AttrId}

@@ -1,10 +1,8 @@
 -- The grammar with the attribute that is inherited late has no cycle: each edge leads to a greater rank.
-use Rattle.std.specs.Prelude.{Contains, All, ◌==◌}
+use Rattle.std.specs.Prelude.{Contains, ◌==◌}
 use Rattle.std.proofs.Common.{◌≡◌, ℕ, zero, suc, ◌<◌, inl, inr, List, [], ◌∷◌, Some, cond, refl, arith, ap, sym, subst, ◌∙◌}
 use Rattle.std.proofs.lemmas.Option.{none-some}
 use Rattle.std.proofs.lemmas.List.Elements.{All-cons, All-nil}
-use Rattle.lido_base.specs.declared.ids.AttrId.{AttrId}
-use Rattle.lido_base.specs.declared.ids.SymId.{SymId}
 use Rattle.flat_grammar.specs.declared.flat.Occ.{Occ}
 use Rattle.flat_grammar.specs.declared.flat.FlatRule.{FlatRule}
 use Rattle.flat_grammar.specs.declared.flat.FlatComp.{FlatComp}
@@ -14,7 +12,7 @@ use Rattle.flat_grammar.specs.Rules.{symbol_at, dependencies}
 use Rattle.flat_grammar.specs.Dependencies.{IDS}
 use Rattle.flat_grammar.specs.Cycles.{EDP, direct, induced, partition, IsWalk, IsAcyclic, IsOrderedGrammar}
 use Rattle.flat_grammar.proofs.Lists.{held, contains-cons, contains-nil}
-use Rattle.trials_of_grammar.specs.LateInherited.{symbols, S_v, S_out, A_i, B_v, S_rule, A_rule, B_rule, rules}
+use Rattle.trials_of_grammar.specs.LateInherited.{symbols, S_v, S_out, B_v, S_rule, A_rule, B_rule, rules}
 use Rattle.trials_of_grammar.proofs.Finite.{each-of}
 use Rattle.trials_of_grammar.proofs.LateInheritedVisits.{S-pair, A-none, B-none, not-earlier}
 

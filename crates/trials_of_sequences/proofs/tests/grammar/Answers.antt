@@ -1,7 +1,7 @@
 use Rattle.std.proofs.Common.{sym, subst}
 use Rattle.flat_grammar.specs.WellFormed.{IsWellFormed}
 use Rattle.trials_of_grammar.specs.ListOfItems.{symbol}
-use Rattle.trials_of_grammar.specs.LateInherited.{rules, shapes}
+use Rattle.trials_of_grammar.specs.LateInherited.{rules}
 use Rattle.trials_of_grammar.proofs.PlainGrammars.{late-well-formed}
 use Rattle.trials_of_sequences.proofs.tests.grammar.Goals as goal
 

@@ -1,0 +1,2 @@
+pub mod LateOrder
+pub mod OneArgument

@@ -1,0 +1,14 @@
+pub mod ClosedWalks
+pub mod Classes
+pub mod Occurrences
+pub mod ProgressLemmas
+pub mod Soundness
+pub mod RowLemmas
+pub mod PlanLemmas
+pub mod BitsLemmas
+pub mod ExpressionLemmas
+pub mod GoalLemmas
+pub mod StepLemmas
+pub mod TakeLemmas
+pub mod ChoiceLemmas
+pub mod MeasureLemmas

@@ -1,0 +1,122 @@
+-- What the construction keeps of a rule: its goals with what they wait for, and how far the items have come.
+use Rattle.std.specs.Prelude.{◌≡◌, ◌↔◌, ◌⊎◌, ℕ, suc, ◌<◌, ◌≤◌, List, [], map, length, Some, slice_get, slice_index, option_and_then, unwrap_or, All, Contains, IsBitSet}
+use Rattle.lido_base.specs.declared.ids.SymId.{SymId}
+use Rattle.lido_base.specs.declared.ids.AttrId.{AttrId}
+use Rattle.flat_grammar.specs.declared.flat.Occ.{Occ}
+use Rattle.flat_grammar.specs.declared.flat.FlatSymbol.{FlatSymbol}
+use Rattle.flat_grammar.specs.declared.flat.FlatRule.{FlatRule}
+use Rattle.flat_grammar.specs.declared.plan.VisitClass.{VisitClass}
+use Rattle.flat_grammar.specs.Rules.{symbol_at, symbols_of}
+use Rattle.flat_grammar.specs.Dependencies.{DP, IDS}
+use Rattle.flat_grammar.specs.Partition.{IsEarlier}
+use Rattle.flat_grammar.specs.SoundPlan.{goals_of, segment_after, visits_made, IsEvaluated, IsAtHand}
+use Rattle.visit_sequences.specs.declared.goals.Goal.{Goal}
+use Rattle.visit_sequences.specs.declared.progress.Progress.{Progress}
+
+-- the visits of the symbol at an occurrence, none where there is no symbol
+abbrev pub row_of : List (List VisitClass) → FlatRule → ℕ → List VisitClass
+row_of visits r k = unwrap_or (option_and_then (λ (s : SymId). slice_get visits s.0) (symbol_at r k)) []
+
+-- no visit before this one has the attribute
+abbrev pub LacksBefore : List VisitClass → ℕ → AttrId → Type 0
+LacksBefore row k b = (l : ℕ) (c : VisitClass) → l < k → slice_get row l ≡ Some c → ¬ Contains c.inherited b × ¬ Contains c.synthesized b
+
+-- a stands in a class, and neither this class nor one that passes before it has b
+abbrev pub StandsBefore : List VisitClass → AttrId → AttrId → Type 0
+StandsBefore row a b = (k : ℕ) × (c : VisitClass) × (slice_get row k ≡ Some c) × LacksBefore row k b
+    × ((Contains c.inherited a × ¬ Contains c.inherited b) ⊎ (Contains c.synthesized a × ¬ Contains c.inherited b × ¬ Contains c.synthesized b))
+
+-- the attribute passes in a visit before this one
+abbrev pub PassedBefore : List VisitClass → ℕ → AttrId → Type 0
+PassedBefore row k a = (j : ℕ) × (c : VisitClass) × (j < k) × (slice_get row j ≡ Some c) × (Contains c.inherited a ⊎ Contains c.synthesized a)
+
+module _ (symbols : List FlatSymbol) (rules : List FlatRule) (r : FlatRule) where
+  -- the attribute comes before the other one of the same occurrence, by the induced dependencies or by its class
+  abbrev pub IsBefore : Occ → AttrId → Type 0
+  IsBefore o a = (x : SymId) × (symbol_at r o.occ ≡ Some x) × (IDS rules x a o.attr ⊎ IsEarlier symbols rules x a o.attr)
+
+  -- it holds what the goal waits for: the attributes of its own occurrence, and what its computation depends on
+  pub record IsGoal (g : Goal) : Type 0 where
+    pub same : (a : AttrId) → IsBitSet g.same a.0 ↔ IsBefore g.goal a
+    pub direct : (u : Occ) → Contains g.direct.items u ↔ DP r u g.goal
+
+  -- these are the rule's goals
+  pub record AreGoals (goals : List Goal) : Type 0 where
+    pub all : map (λ (g : Goal). g.goal) goals ≡ goals_of r
+    pub each : All IsGoal goals
+
+-- the attribute passes in the visit, counted from 1
+abbrev pub PassesIn : (VisitClass → List AttrId) → List VisitClass → ℕ → AttrId → Type 0
+PassesIn of row visit a = (v : ℕ) × (c : VisitClass) × (visit ≡ suc v) × (slice_get row v ≡ Some c) × Contains (of c) a
+
+-- the sets of bits, one for each occurrence, have this one
+abbrev pub HasBit : List ℕ → Occ → Type 0
+HasBit rows o = IsBitSet (slice_index rows o.occ) o.attr.0
+
+-- the set has the attributes of this list of the visit, counted from 1
+abbrev pub HasBitsOf : (VisitClass → List AttrId) → List VisitClass → ℕ → ℕ → Type 0
+HasBitsOf of row visit set = (a : AttrId) → IsBitSet set a.0 ↔ ((a.0 < 128) × PassesIn of row visit a)
+
+-- the sets have become larger by these bits at one place
+abbrev pub Adds : List ℕ → List ℕ → ℕ → ℕ → Type 0
+Adds old new k more = (i j : ℕ) → IsBitSet (slice_index new i) j ↔ (IsBitSet (slice_index old i) j ⊎ ((i ≡ k) × (k < length old) × IsBitSet more j))
+
+-- the sets have become larger by one occurrence
+abbrev pub Evaluates : List ℕ → List ℕ → Occ → Type 0
+Evaluates old new goal = (o : Occ) → HasBit new o ↔ (HasBit old o ⊎ ((o ≡ goal) × (goal.occ < length old) × (goal.attr.0 < 128)))
+
+-- the sets have become larger by what passes at an occurrence in a visit
+abbrev pub Passes : (VisitClass → List AttrId) → List VisitClass → ℕ → List ℕ → List ℕ → ℕ → Type 0
+Passes of row visit old new k = (o : Occ) → HasBit new o ↔ (HasBit old o ⊎ ((o.occ ≡ k) × (k < length old) × (o.attr.0 < 128) × PassesIn of row visit o.attr))
+
+-- the items' evaluations, what is at hand behind them, how often they visit each child, and the visit that goes on
+pub record Follows (visits : List (List VisitClass)) (r : FlatRule) (p : Progress) : Type 0 where
+  pub evaluated : (o : Occ) → HasBit p.evaluated.items o ↔ IsEvaluated p.items.items o
+  pub at_hand : (o : Occ) → HasBit p.at_hand.items o ↔ IsAtHand visits r p.items.items o
+  pub each_evaluated : length p.evaluated.items ≡ length (symbols_of r)
+  pub each_at_hand : length p.at_hand.items ≡ length (symbols_of r)
+  pub each_made : length p.made.items ≡ length (symbols_of r)
+  pub made : (k : ℕ) → k < length (symbols_of r) → slice_index p.made.items k ≡ visits_made p.items.items k
+  pub segment : p.segment ≡ segment_after p.items.items
+
+-- the goal is not evaluated, and all that it waits for is at hand
+abbrev pub IsOpen : Progress → Goal → Type 0
+IsOpen p g = ¬ HasBit p.evaluated.items g.goal × ((a : AttrId) → IsBitSet g.same a.0 → HasBit p.at_hand.items (record { occ = g.goal.occ; attr = a }))
+    × ((u : Occ) → Contains g.direct.items u → HasBit p.at_hand.items u)
+
+-- all these attributes of the occurrence are evaluated
+abbrev pub HasAll : Progress → ℕ → List AttrId → Type 0
+HasAll p k attrs = All (λ (a : AttrId). HasBit p.evaluated.items (record { occ = k; attr = a })) attrs
+
+-- the visit's synthesized attributes are not all evaluated
+abbrev pub OwesClass : List VisitClass → Progress → Type 0
+OwesClass row p = (v : ℕ) × (c : VisitClass) × (p.segment ≡ suc v) × (slice_get row v ≡ Some c) × ¬ HasAll p 0 c.synthesized
+
+-- a goal is not evaluated
+abbrev pub HasLeft : List Goal → Progress → Type 0
+HasLeft goals p = (g : Goal) × Contains goals g × ¬ HasBit p.evaluated.items g.goal
+
+-- from this visit on, counted from 0, one has a synthesized attribute
+abbrev pub IsOfUseFrom : List VisitClass → ℕ → Type 0
+IsOfUseFrom row from = (w : ℕ) × (c : VisitClass) × (from ≤ w) × (slice_get row w ≡ Some c) × ¬ (c.synthesized ≡ [])
+
+module _ (visits : List (List VisitClass)) (r : FlatRule) (p : Progress) where
+  -- the next visit of the child is ready and not idle
+  abbrev pub IsReadyAt : ℕ → Type 0
+  IsReadyAt k = (c : VisitClass) × (slice_get (row_of visits r k) (slice_index p.made.items k) ≡ Some c) × HasAll p k c.inherited × IsOfUseFrom (row_of visits r k) (slice_index p.made.items k)
+
+  -- the child has a visit left
+  abbrev pub IsNextAt : ℕ → Type 0
+  IsNextAt k = slice_index p.made.items k < length (row_of visits r k)
+
+  -- the present visit still owes something
+  abbrev pub Owes : List Goal → Type 0
+  Owes goals = OwesClass (row_of visits r 0) p ⊎ ((p.segment ≡ length (row_of visits r 0)) × HasLeft goals p)
+
+-- the least child of which this holds
+abbrev pub IsLeastChild : FlatRule → (ℕ → Type 0) → ℕ → Type 0
+IsLeastChild r P k = (0 < k) × (k ≤ length r.right) × P k × ((j : ℕ) → 0 < j → P j → k ≤ j)
+
+-- it holds of no child
+abbrev pub IsNoChild : FlatRule → (ℕ → Type 0) → Type 0
+IsNoChild r P = (j : ℕ) → 0 < j → j ≤ length r.right → ¬ P j

@@ -1,0 +1,245 @@
+//! The item that the construction chooses next.
+ghost use Rattle.std.specs.Prelude.{◌≡◌, ◌↔◌, ◌⊎◌, ◌+◌, ◌^◌, ◌<◌, ◌≤◌, suc, ℕ, All, Contains, length, IsTrue, IfOk, MatchOption, slice_index};
+ghost use Rattle.flat_grammar.specs.declared.flat.Occ.{Occ as Occurrence};
+ghost use Rattle.flat_grammar.specs.Construction.{IsChosen};
+ghost use Rattle.flat_grammar.specs.Cycles.{IsAtMost};
+ghost use Rattle.flat_grammar.specs.Partition.{AreAllVisits};
+ghost use Rattle.flat_grammar.specs.declared.plan.PlanItem.TheVariants.{Visit};
+ghost use Rattle.visit_sequences.specs.declared.goals.Goal.{Goal as Waiting};
+ghost use Rattle.visit_sequences.specs.Steps.{AreGoals, Follows, HasBit, HasLeft, IsLeastChild, IsNextAt, IsNoChild, IsOfUseFrom, IsOpen, IsReadyAt, Owes, OwesClass, row_of};
+
+use crate::bits::is_within;
+use crate::goals::Goal;
+use crate::progress::Progress;
+use crate::rows::row_at;
+use flat_grammar::{Flat, FlatRule, Occ, Parts, PlanItem, VisitClass};
+use lido_base::{List, Memory};
+
+/// Whether the first occurrence comes before the other.
+fn comes_before(o: Occ, p: Occ) -> bool
+    ensures yes { IsTrue result → IsAtMost o p }
+    ensures no { ¬ IsTrue result → IsAtMost p o }
+{
+    o.occ < p.occ || o.occ == p.occ && o.attr.0 < p.attr.0
+}
+
+/// The lesser one of what was the least so far and another.
+fn lesser(least: Option<Occ>, o: Occ) -> Occ
+    ensures other { IsAtMost result o }
+    ensures so_far { MatchOption least (result ≡ o) (λ p. IsAtMost result p × ((result ≡ p) ⊎ (result ≡ o))) }
+{
+    match least {
+        None => o,
+        Some(p) => { if comes_before(o, p) { o } else { p } }
+    }
+}
+
+/// A visit's number, if it is one of 16 bits. A symbol has no more visits than attributes, and one at least.
+fn number(visit: usize) -> Result<u16, Memory>
+    ensures { IfOk result (λ n. n ≡ visit) }
+{
+    if visit < 65_536 {
+        Ok(visit as u16)
+    } else {
+        Err(Memory)
+    }
+}
+
+/// Whether a visit from this one on, counted from 0, synthesizes something.
+fn is_of_use(row: &[VisitClass], from: usize) -> bool
+    ensures { IsTrue result ↔ IsOfUseFrom row.now from }
+{
+    for v in from..row.len() {
+        if row[v].synthesized.len() > 0 {
+            return true;
+        }
+    }
+    false
+}
+
+impl Progress {
+    /// Whether all these occurrences are at hand.
+    fn has_direct(&self, direct: &[Occ]) -> bool
+        ensures { IsTrue result ↔ ((u : Occurrence) → Contains direct.now u → HasBit self.now.at_hand.items u) }
+    {
+        for o in direct {
+            if !self.is_at_hand(*o) {
+                return false;
+            }
+        }
+        true
+    }
+
+    /// Whether the goal is not evaluated and all that it waits for is at hand.
+    fn is_ready(&self, goal: &Goal) -> bool
+        ensures { IsTrue result ↔ IsOpen self.now goal.now }
+    {
+        !self.is_evaluated(goal.goal)
+            && is_within(goal.same, self.at_hand_at(goal.goal.occ))
+            && self.has_direct(goal.direct.as_slice())
+    }
+
+    /// The least evaluation that is ready.
+    fn least_ready(&self, goals: &[Goal]) -> Option<Occ>
+        ensures { MatchOption result (All (λ g. ¬ IsOpen self.now g) goals.now)
+            (λ o. ((g : Waiting) × Contains goals.now g × IsOpen self.now g × (g.goal ≡ o)) × All (λ g. IsOpen self.now g → IsAtMost o g.goal) goals.now) }
+    {
+        let mut least = None;
+        for goal in goals {
+            if self.is_ready(goal) {
+                least = Some(lesser(least, goal.goal));
+            }
+        }
+        least
+    }
+
+    /// Whether the present visit's synthesized attributes are not all evaluated.
+    fn owes_class(&self, row: &[VisitClass]) -> bool
+        ensures { IsTrue result ↔ OwesClass row.now self.now }
+    {
+        if self.segment == 0 {
+            return false;
+        }
+        match row.get(self.segment - 1) {
+            Some(class) => !self.has_all(0, class.synthesized.as_slice()),
+            None => false,
+        }
+    }
+
+    /// Whether a goal is not evaluated.
+    fn has_left(&self, goals: &[Goal]) -> bool
+        ensures { IsTrue result ↔ HasLeft goals.now self.now }
+    {
+        for goal in goals {
+            if !self.is_evaluated(goal.goal) {
+                return true;
+            }
+        }
+        false
+    }
+
+    /// Whether the present visit owes something: its synthesized attributes, or in the last one any goal.
+    fn owes(&self, visits: &[List<VisitClass>], rule: &FlatRule, goals: &[Goal]) -> bool
+        ensures { IsTrue result ↔ Owes visits.now rule.now self.now goals.now }
+    {
+        let row = row_at(visits, rule, 0);
+        self.owes_class(row) || self.segment == row.len() && self.has_left(goals)
+    }
+
+    /// Whether the child's next visit is ready and not idle.
+    fn is_ready_visit(&self, visits: &[List<VisitClass>], rule: &FlatRule, occ: u16) -> bool
+        ensures { IsTrue result ↔ IsReadyAt visits.now rule.now self.now occ }
+    {
+        let row = row_at(visits, rule, occ);
+        let made = self.visits_made(occ);
+        match row.get(made) {
+            Some(class) => self.has_all(occ, class.inherited.as_slice()) && is_of_use(row, made),
+            None => false,
+        }
+    }
+
+    /// The least child whose next visit is ready and not idle.
+    fn ready_child(&self, visits: &[List<VisitClass>], rule: &FlatRule) -> Option<u16>
+        requires { length rule.now.right < 2 ^ 16 }
+        ensures { MatchOption result (IsNoChild rule.now (IsReadyAt visits.now rule.now self.now)) (IsLeastChild rule.now (IsReadyAt visits.now rule.now self.now)) }
+    {
+        for k in 0..rule.right.len() as u16 {
+            if self.is_ready_visit(visits, rule, k + 1) {
+                return Some(k + 1);
+            }
+        }
+        None
+    }
+
+    /// Whether the child has a visit left.
+    fn has_next(&self, visits: &[List<VisitClass>], rule: &FlatRule, occ: u16) -> bool
+        ensures { IsTrue result ↔ IsNextAt visits.now rule.now self.now occ }
+    {
+        self.visits_made(occ) < row_at(visits, rule, occ).len()
+    }
+
+    /// The least child that has a visit left.
+    fn next_child(&self, visits: &[List<VisitClass>], rule: &FlatRule) -> Option<u16>
+        requires { length rule.now.right < 2 ^ 16 }
+        ensures { MatchOption result (IsNoChild rule.now (IsNextAt visits.now rule.now self.now)) (IsLeastChild rule.now (IsNextAt visits.now rule.now self.now)) }
+    {
+        for k in 0..rule.right.len() as u16 {
+            if self.has_next(visits, rule, k + 1) {
+                return Some(k + 1);
+            }
+        }
+        None
+    }
+
+    /// The child that is visited because the present visit owes something.
+    fn owed_child(
+        &self,
+        visits: &[List<VisitClass>],
+        rule: &FlatRule,
+        goals: &[Goal],
+    ) -> Option<u16>
+        requires { length rule.now.right < 2 ^ 16 }
+        ensures { MatchOption result (Owes visits.now rule.now self.now goals.now → IsNoChild rule.now (IsReadyAt visits.now rule.now self.now))
+            (λ k. Owes visits.now rule.now self.now goals.now × IsLeastChild rule.now (IsReadyAt visits.now rule.now self.now) k) }
+    {
+        if !self.owes(visits, rule, goals) {
+            return None;
+        }
+        self.ready_child(visits, rule)
+    }
+
+    /// The child that is visited because the last visit goes on.
+    fn last_child(&self, visits: &[List<VisitClass>], rule: &FlatRule) -> Option<u16>
+        requires { length rule.now.right < 2 ^ 16 }
+        ensures { MatchOption result (self.now.segment ≡ length (row_of visits.now rule.now 0) → IsNoChild rule.now (IsNextAt visits.now rule.now self.now))
+            (λ k. (self.now.segment ≡ length (row_of visits.now rule.now 0)) × IsLeastChild rule.now (IsNextAt visits.now rule.now self.now) k) }
+    {
+        if self.segment != row_at(visits, rule, 0).len() {
+            return None;
+        }
+        self.next_child(visits, rule)
+    }
+
+    /// The next visit of the child.
+    fn next_visit(&self, occ: u16) -> Result<PlanItem, Memory>
+        ensures { IfOk result (λ item. item ≡ Visit occ (suc (slice_index self.now.made.items occ))) }
+    {
+        let made = number(self.visits_made(occ))?;
+        if made == 65_535 {
+            return Err(Memory);
+        }
+        Ok(PlanItem::Visit {
+            occ,
+            visit: made + 1,
+        })
+    }
+
+    /// The item that the construction chooses.
+    pub fn choose(
+        &self,
+        flat: &Flat,
+        parts: &Parts,
+        rule: &FlatRule,
+        goals: &[Goal],
+    ) -> Result<PlanItem, Memory>
+        requires visits { AreAllVisits flat.now.symbols flat.now.rules parts.now.visits }
+        requires rule { Contains flat.now.rules rule.now }
+        requires goals { AreGoals flat.now.symbols flat.now.rules rule.now goals.now }
+        requires follows { Follows parts.now.visits rule.now self.now }
+        ensures { IfOk result (IsChosen flat.now.symbols flat.now.rules parts.now.visits rule.now self.now.items.items) }
+    {
+        let visits = parts.visits.as_slice();
+        if let Some(goal) = self.least_ready(goals) {
+            return Ok(PlanItem::Eval(goal));
+        }
+        if let Some(occ) = self.owed_child(visits, rule, goals) {
+            return self.next_visit(occ);
+        }
+        if let Some(occ) = self.last_child(visits, rule) {
+            return self.next_visit(occ);
+        }
+        Ok(PlanItem::Leave {
+            visit: number(self.segment)?,
+        })
+    }
+}

@@ -1,0 +1,119 @@
+//! The goals of a rule, and what they wait for.
+ghost use Rattle.std.specs.Prelude.{◌≡◌, ◌<◌, ◌↔◌, ◌⊎◌, ℕ, Contains, Some, slice_get, IfOk, IsSome, IsBitSet};
+ghost use Rattle.lido_base.specs.declared.ids.AttrId.{AttrId as Attribute};
+ghost use Rattle.flat_grammar.specs.Dependencies.{AreInducedRows};
+ghost use Rattle.flat_grammar.specs.Partition.{AreAllVisits};
+ghost use Rattle.flat_grammar.specs.WellFormed.{attribute_of};
+ghost use Rattle.visit_sequences.specs.Steps.{IsGoal, AreGoals, IsBefore, StandsBefore};
+
+use crate::bits::{has, members, union, with};
+use crate::reads::dependencies_of;
+use crate::rows::{row_at, symbol_at};
+use flat_grammar::{Deps, Flat, FlatComp, FlatRule, Occ, Parts, VisitClass};
+use lido_base::{AttrId, Memory};
+use std::alloc::Global;
+
+/// A goal of a rule, and what has to be at hand before it is evaluated.
+#[derive(Drop)]
+pub struct Goal {
+    pub goal: Occ,
+    /// Attributes of its own occurrence, by their numbers.
+    pub same: u128,
+    /// What its computation depends on.
+    pub direct: Vec<Occ>,
+}
+
+/// The attributes that come before this one by the rows of induced dependencies.
+fn induced(rows: &[u128], b: AttrId) -> u128
+    ensures { (a : Attribute) → IsBitSet result a.0 ↔ ((a.0 < 128) × (row : ℕ) × (slice_get rows.now a.0 ≡ Some row) × IsBitSet row b.0) }
+{
+    let mut set = 0;
+    for (a, row) in rows.iter().enumerate() {
+        if has(*row, b.0 as usize) {
+            set = with(set, a);
+        }
+    }
+    set
+}
+
+/// The attributes of the classes that pass before the first one that has this attribute.
+fn earlier(row: &[VisitClass], b: AttrId) -> u128
+    requires { b.0 < 128 }
+    ensures { (a : Attribute) → IsBitSet result a.0 ↔ ((a.0 < 128) × StandsBefore row.now a b) }
+{
+    let mut set = 0;
+    for class in row {
+        let inherited = members(class.inherited.as_slice());
+        if has(inherited, b.0 as usize) {
+            return set;
+        }
+        let both = union(set, inherited);
+        let synthesized = members(class.synthesized.as_slice());
+        if has(synthesized, b.0 as usize) {
+            return both;
+        }
+        set = union(both, synthesized);
+    }
+    set
+}
+
+/// The attributes of the goal's own occurrence that come before it.
+fn same_of(flat: &Flat, deps: &Deps, parts: &Parts, rule: &FlatRule, goal: Occ) -> u128
+    requires rows { AreInducedRows flat.now.symbols flat.now.rules deps.now.ids }
+    requires visits { AreAllVisits flat.now.symbols flat.now.rules parts.now.visits }
+    requires attribute { IsSome (attribute_of flat.now.symbols rule.now goal) }
+    ensures { (a : Attribute) → IsBitSet result a.0 ↔ IsBefore flat.now.symbols flat.now.rules rule.now goal a }
+{
+    let Some(symbol) = symbol_at(rule, goal.occ) else {
+        return 0;
+    };
+    let before = earlier(row_at(parts.visits.as_slice(), rule, goal.occ), goal.attr);
+    match deps.ids.as_slice().get(symbol.0 as usize) {
+        Some(rows) => union(before, induced(rows.as_slice(), goal.attr)),
+        None => before,
+    }
+}
+
+/// The goal of a computation.
+fn goal_of(
+    alloc: Global,
+    flat: &Flat,
+    deps: &Deps,
+    parts: &Parts,
+    rule: &FlatRule,
+    comp: &FlatComp,
+) -> Result<Goal, Memory>
+    requires rows { AreInducedRows flat.now.symbols flat.now.rules deps.now.ids }
+    requires visits { AreAllVisits flat.now.symbols flat.now.rules parts.now.visits }
+    requires rule { Contains flat.now.rules rule.now }
+    requires comp { Contains rule.now.comps comp.now }
+    ensures goal { IfOk result (λ goal. goal.goal ≡ comp.now.goal) }
+    ensures waits { IfOk result (IsGoal flat.now.symbols flat.now.rules rule.now) }
+{
+    Ok(Goal {
+        goal: comp.goal,
+        same: same_of(flat, deps, parts, rule, comp.goal),
+        direct: dependencies_of(alloc, comp)?,
+    })
+}
+
+/// The goals of a rule, in the order of its computations.
+pub fn goals(
+    alloc: Global,
+    flat: &Flat,
+    deps: &Deps,
+    parts: &Parts,
+    rule: &FlatRule,
+) -> Result<Vec<Goal>, Memory>
+    requires rows { AreInducedRows flat.now.symbols flat.now.rules deps.now.ids }
+    requires visits { AreAllVisits flat.now.symbols flat.now.rules parts.now.visits }
+    requires rule { Contains flat.now.rules rule.now }
+    ensures { IfOk result (λ goals. AreGoals flat.now.symbols flat.now.rules rule.now goals.items) }
+{
+    let mut goals = Vec::new(alloc);
+    for comp in rule.comps.as_slice() {
+        let goal = goal_of(alloc, flat, deps, parts, rule, comp)?;
+        goals.push(goal)?;
+    }
+    Ok(goals)
+}

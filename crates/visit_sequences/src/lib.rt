@@ -1,0 +1,13 @@
+//! The visit sequences of a flat grammar whose extended dependencies have no cycle.
+#![tactic(auto)]
+
+mod bits;
+mod choice;
+mod goals;
+pub mod laws;
+mod plan;
+mod progress;
+mod reads;
+mod rows;
+
+pub use plan::sequences;

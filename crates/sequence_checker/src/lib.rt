@@ -1,0 +1,9 @@
+//! The check of plans: whether the visits and the visit sequences of a plan are sound. It stands on the grammar alone.
+#![tactic(auto)]
+
+mod fault;
+mod progress;
+mod set;
+mod visits;
+
+pub use fault::CheckFault;

@@ -73,16 +73,16 @@ same-attribute a b e = λ i. record { 0 = e i }
 pub any-contains : (attrs : List AttrId) (b : AttrId) → IsTrue (list_any (λ (a : AttrId). nat_eq a.0 b.0) attrs) → Contains attrs b
 any-contains [] b h = never h
 any-contains (a ∷ attrs) b h = elim (either (nat_eq a.0 b.0) (list_any (λ (x : AttrId). nat_eq x.0 b.0) attrs) h) [
-    | inl e ↦ subst (λ x. Contains (x ∷ attrs) b) (same-attribute b a (sym (eqb-true a.0 b.0 e))) (contains-first b attrs)
-    | inr m ↦ contains-later a b attrs (any-contains attrs b m)
-  ]
+  | inl e ↦ subst (λ x. Contains (x ∷ attrs) b) (same-attribute b a (sym (eqb-true a.0 b.0 e))) (contains-first b attrs)
+  | inr m ↦ contains-later a b attrs (any-contains attrs b m)
+]
 
 pub contains-any : (attrs : List AttrId) (b : AttrId) → Contains attrs b → IsTrue (list_any (λ (a : AttrId). nat_eq a.0 b.0) attrs)
 contains-any [] b m = absurd (contains-nil b m)
 contains-any (a ∷ attrs) b m = elim (contains-cons a b attrs m) [
-    | inl e ↦ left (nat_eq a.0 b.0) _ (eq-eqb a.0 b.0 (ap (λ (x : AttrId). x.0) e))
-    | inr n ↦ right (nat_eq a.0 b.0) _ (contains-any attrs b n)
-  ]
+  | inl e ↦ left (nat_eq a.0 b.0) _ (eq-eqb a.0 b.0 (ap (λ (x : AttrId). x.0) e))
+  | inr n ↦ right (nat_eq a.0 b.0) _ (contains-any attrs b n)
+]
 
 pub same-occurrence : (o p : Occ) → IsTrue (is_same_occ o p) → o ≡ p
 same-occurrence o p h =

@@ -1,2 +1,4 @@
 pub mod Bools
 pub mod GoalLemmas
+pub mod StepLemmas
+pub mod ExpressionLemmas

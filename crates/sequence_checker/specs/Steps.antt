@@ -1,12 +1,13 @@
 -- What the checker keeps of the items of a sequence that it has seen.
-use Rattle.std.specs.Prelude.{◌≡◌, ◌↔◌, ℕ, zero, suc, ◌<◌, ◌≤◌, ◌+◌, Bool, ◌||◌, IsTrue, List, [], Option, Some, None, Contains, count_by, length, slice_index, sum}
+use Rattle.std.specs.Prelude.{◌≡◌, ◌↔◌, ℕ, zero, suc, ◌<◌, ◌≤◌, ◌+◌, Bool, ◌||◌, IsTrue, List, [], Option, Some, None, Contains, count_by, length, slice_index, sum, ◌++◌, ◌∷◌}
 use Rattle.lido_base.specs.declared.ids.AttrId.{AttrId}
 use Rattle.flat_grammar.specs.declared.flat.Occ.{Occ}
 use Rattle.flat_grammar.specs.declared.flat.FlatRule.{FlatRule}
+use Rattle.flat_grammar.specs.declared.flat.FlatSymbol.{FlatSymbol}
 use Rattle.flat_grammar.specs.declared.plan.VisitClass.{VisitClass}
 use Rattle.flat_grammar.specs.declared.plan.PlanItem.{PlanItem}
 use Rattle.flat_grammar.specs.Rules.{symbols_of}
-use Rattle.flat_grammar.specs.SoundPlan.{is_leave, visits_made, segment_after, IsEvaluated}
+use Rattle.flat_grammar.specs.SoundPlan.{is_leave, visits_made, segment_after, IsEvaluated, Allows}
 use Rattle.sequence_checker.specs.declared.set.Occurrences.{Occurrences}
 use Rattle.sequence_checker.specs.declared.progress.Progress.{Progress}
 use Rattle.sequence_checker.specs.Sets.{has, size, is_one_of}
@@ -28,6 +29,10 @@ passing k None = []
 passing zero (Some class) = class.inherited
 passing (suc k) (Some class) = class.synthesized
 
+-- the checker has seen its value come
+abbrev pub is_at_hand : Progress → Occ → Bool
+is_at_hand p o = has p.evaluated o || has p.given o
+
 module _ (visits : List (List VisitClass)) (r : FlatRule) where
   -- it passed in a visit
   abbrev pub IsGiven : List PlanItem → Occ → Type 0
@@ -44,3 +49,7 @@ module _ (visits : List (List VisitClass)) (r : FlatRule) where
     pub each : length p.made.items ≡ length (symbols_of r)
     pub made : (k : ℕ) → k < length (symbols_of r) → slice_index p.made.items k ≡ ended before k
     pub counted : length before ≡ size p.evaluated + sum p.made.items
+
+  -- whatever items the checker has seen, it has then seen this one too, if all clauses allow it there
+  abbrev pub GoesOn : PlanItem → Progress → Progress → Type 0
+  GoesOn item p q = (symbols : List FlatSymbol) (before : List PlanItem) → Follows before p → ((clause : ℕ) → Allows symbols visits r clause before item) → Follows (before ++ item ∷ []) q

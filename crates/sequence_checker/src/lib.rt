@@ -3,6 +3,7 @@
 
 mod fault;
 mod progress;
+mod reads;
 mod set;
 mod visits;
 

@@ -1,11 +1,8 @@
 //! How far a visit sequence has come: what is evaluated, what the visits gave, and how many were made.
-ghost use Rattle.std.specs.Prelude.{◌≡◌, ◌+◌, ◌||◌, ◌^◌, ◌<◌, [], ◌∷◌, ◌++◌, ℕ, List, length, replicate, IfOk, OnOk, slice_index, slice_set};
+ghost use Rattle.std.specs.Prelude.{◌≡◌, ◌+◌, ◌||◌, ◌^◌, ◌<◌, [], length, replicate, IfOk, OnOk, slice_index, slice_set};
 ghost use Rattle.flat_grammar.specs.declared.flat.Occ.{Occ as Occurrence};
-ghost use Rattle.flat_grammar.specs.declared.plan.PlanItem.{PlanItem as Item};
-ghost use Rattle.flat_grammar.specs.SoundPlan.{Allows};
-ghost use Rattle.flat_grammar.specs.declared.flat.FlatSymbol.{FlatSymbol as Symbol};
 ghost use Rattle.sequence_checker.specs.Sets.{has, has_each, is_one_of};
-ghost use Rattle.sequence_checker.specs.Steps.{Follows, Gave};
+ghost use Rattle.sequence_checker.specs.Steps.{Follows, Gave, GoesOn, is_at_hand};
 
 use crate::set::Occurrences;
 use crate::visits::class_at;
@@ -69,7 +66,7 @@ impl Progress {
 
     /// Whether it has its value.
     pub fn is_at_hand(&self, o: Occ) -> bool
-        ensures { result ≡ (has self.now.evaluated o || has self.now.given o) }
+        ensures { result ≡ is_at_hand self.now o }
     {
         self.evaluated.has(o) || self.given.has(o)
     }
@@ -153,8 +150,7 @@ impl Progress {
         rule: &FlatRule,
         item: PlanItem,
     ) -> Result<(), Memory>
-        ensures { OnOk result ((symbols : List Symbol) (before : List Item) → Follows visits.now rule.now before self.old
-            → ((clause : ℕ) → Allows symbols visits.now rule.now clause before item) → Follows visits.now rule.now (before ++ item ∷ []) self.new) }
+        ensures { OnOk result (GoesOn visits.now rule.now item self.old self.new) }
     {
         match item {
             PlanItem::Eval(goal) => Ok(self.evaluated.add(goal)?),

@@ -2,3 +2,5 @@ pub mod Bools
 pub mod GoalLemmas
 pub mod StepLemmas
 pub mod ExpressionLemmas
+pub mod ItemLemmas
+pub mod EndLemmas

@@ -2,3 +2,4 @@ pub mod Sets
 pub mod Classes
 pub mod Steps
 pub mod Expressions
+pub mod Faults

@@ -2,6 +2,7 @@
 #![tactic(auto)]
 
 mod fault;
+mod items;
 mod progress;
 mod reads;
 mod set;

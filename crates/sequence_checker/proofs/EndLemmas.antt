@@ -68,8 +68,10 @@ module _ (symbols : List FlatSymbol) (visits : List (List VisitClass)) (r : Flat
 
   module _ (p : Progress) (follows : Follows visits r seq p) where
     pub goals-are : IsTrue (list_all (has p.evaluated) (goals_of r)) ↔ AllowsEnd symbols visits r 1 seq
-    goals-are = ((λ h k d l. (follows.evaluated (slice_index_or (goals_of r) k d)).0 (all-tested (has p.evaluated) (goals_of r) h k d l)),
-        (λ h. tested-all (has p.evaluated) (goals_of r) (λ k d l. (follows.evaluated (slice_index_or (goals_of r) k d)).1 (h k d l))))
+    goals-are = (
+      (λ h k d l. (follows.evaluated (slice_index_or (goals_of r) k d)).0 (all-tested (has p.evaluated) (goals_of r) h k d l)),
+      (λ h. tested-all (has p.evaluated) (goals_of r) (λ k d l. (follows.evaluated (slice_index_or (goals_of r) k d)).1 (h k d l))),
+    )
 
     -- all visits of the children were made
     abbrev pub AreVisited : Type 0

@@ -96,9 +96,9 @@ module _ (visits : List (List VisitClass)) (r : FlatRule) where
 
         from : IsAtHand visits r before o → IsTrue (is_at_hand p o)
         from h = elim (hand-given o.occ o.attr.0 h) [
-            | inl e ↦ left (has p.evaluated o) (has p.given o) ((follows.evaluated o).1 e)
-            | inr g ↦ right (has p.evaluated o) (has p.given o) ((follows.given o).1 g)
-          ]
+          | inl e ↦ left (has p.evaluated o) (has p.given o) ((follows.evaluated o).1 e)
+          | inr g ↦ right (has p.evaluated o) (has p.given o) ((follows.given o).1 g)
+        ]
 
     all-hand : (os : List Occ) → IsTrue (list_all (is_at_hand p) os) → All (IsAtHand visits r before) os
     all-hand os h = λ k d l. (hand-is (slice_index_or os k d)).0 (all-tested (is_at_hand p) os h k d l)

@@ -1,5 +1,5 @@
 -- What the checker keeps goes on from item to item.
-use Rattle.std.specs.Prelude.{Bool, true, false, cond, ◌||◌, IsTrue, ◌↔◌, Contains, slice_get, slice_index, slice_set, nat_eq, sum, sum_by, replicate}
+use Rattle.std.specs.Prelude.{Bool, true, false, cond, ◌||◌, IsTrue, ◌↔◌, Contains, slice_get, slice_index, slice_set, nat_eq, sum, sum_by, count_by, replicate, All, ◌^◌}
 use Rattle.std.specs.List.{list_any}
 use Rattle.std.proofs.Common.{◌≡◌, ℕ, zero, suc, ◌+◌, ◌<◌, ◌≤◌, ◌⊎◌, inl, inr, List, [], ◌∷◌, ◌++◌, length, Option, Some, None, refl, arith, ap, sym, subst, ◌∙◌, eqb-true, eq-eqb, Result, Ok, Err, OnOk}
 use Rattle.std.proofs.lemmas.Bool.{cases_eq, cases_order}
@@ -7,7 +7,7 @@ use Rattle.std.proofs.lemmas.Option.{slice_get_within}
 use Rattle.std.proofs.lemmas.List.{length_push, get_or-set_same, get_or-set_other, length-set, get_or-replicate, length-replicate}
 use Rattle.std.proofs.lemmas.List.Sums.{sum_by_push, sum_by-set}
 use Rattle.std.proofs.lemmas.List.Folds.{sum_by-replicate}
-use Rattle.std.proofs.lemmas.List.Elements.{Contains-push, Contains-push_cases, Contains-append_left}
+use Rattle.std.proofs.lemmas.List.Elements.{Contains-push, Contains-push_cases, Contains-append_left, All-set, All-same, All-replicate}
 use Rattle.lido_base.specs.declared.ids.AttrId.{AttrId}
 use Rattle.lido_base.specs.declared.ids.SymId.{SymId}
 use Rattle.flat_grammar.specs.declared.flat.Occ.{Occ}
@@ -17,14 +17,16 @@ use Rattle.flat_grammar.specs.declared.plan.VisitClass.{VisitClass}
 use Rattle.flat_grammar.specs.declared.plan.PlanItem.{PlanItem}
 use Rattle.flat_grammar.specs.declared.plan.PlanItem.TheVariants.{Eval, Visit, Leave}
 use Rattle.flat_grammar.specs.Rules.{symbols_of, symbol_at}
-use Rattle.flat_grammar.specs.WellFormed.{is_same_occ}
+use Rattle.flat_grammar.specs.declared.flat.FlatComp.{FlatComp}
+use Rattle.flat_grammar.specs.WellFormed.{is_same_occ, IsRule}
 use Rattle.flat_grammar.specs.SoundPlan.{is_leave, is_visit_of, visits_made, segment_after, IsEvaluated, IsClassAt, Allows}
 use Rattle.flat_grammar.proofs.Lists.{contains-nil}
 use Rattle.sequence_checker.specs.declared.set.Occurrences.{Occurrences}
 use Rattle.sequence_checker.specs.declared.progress.Progress.{Progress}
-use Rattle.sequence_checker.specs.Sets.{has, size, is_one_of}
+use Rattle.sequence_checker.specs.Sets.{has, is_one_of}
 use Rattle.sequence_checker.specs.Classes.{class_of}
 use Rattle.sequence_checker.specs.Steps.{ended, passed_up_to, passing, IsGiven, Gave, Follows, GoesOn}
+use Rattle.sequence_checker.proofs.CountLemmas.{count-none, count-more}
 use Rattle.sequence_checker.proofs.Bools.{never, both, together, either, left, right, any-contains, contains-any, same-occurrence, occurrence-same}
 
 -- by how much an item raises the number of visits that came to their end
@@ -113,14 +115,15 @@ module _ (visits : List (List VisitClass)) (r : FlatRule) where
   given-none o (suc v, l, m) = absurd (omega (arith, l))
 
   -- before the first item
-  pub follows-start : (p : Progress) (empty : Occurrences) → ((o : Occ) → has empty o ≡ false) → ((o : Occ) → has p.evaluated o ≡ false) → size p.evaluated ≡ 0
+  pub follows-start : (p : Progress) (empty : Occurrences) → ((o : Occ) → has empty o ≡ false) → ((o : Occ) → has p.evaluated o ≡ false)
       → Gave visits r 0 1 empty p.given → p.made.items ≡ replicate (length r.right + 1) 0 → Follows visits r [] p
-  follows-start p empty none unevaluated none_yet gave zeros = record {
+  follows-start p empty none unevaluated gave zeros = record {
     evaluated = λ o. (λ h. never (sym (unevaluated o) ∙ h), λ m. absurd (contains-nil (Eval o) m));
     given = given-more (λ k. 0) (passed_up_to []) 0 1 refl refl others empty p.given gave (λ o. (λ h. never (sym (none o) ∙ h), λ g. absurd (given-none o g)));
     each = ap length zeros ∙ (length-replicate (length r.right + 1) 0 ∙ omega arith);
     made = λ k l. ap (λ (m : List ℕ). slice_index m k) zeros ∙ (get_or-replicate (length r.right + 1) k 0 0 (omega arith) ∙ sym (nothing_ended k));
-    counted = let s = ap sum zeros in let z = sum_by-replicate (λ (x : ℕ). x) (length r.right + 1) 0 in omega (arith, s, z);
+    small = All-same (λ n. n < 2 ^ 16) p.made.items (replicate (length r.right + 1) 0) zeros (All-replicate (λ n. n < 2 ^ 16) (length r.right + 1) 0 (omega arith));
+    counted = let s = ap sum zeros in let z = sum_by-replicate (λ (x : ℕ). x) (length r.right + 1) 0 in let n = count-none (λ (c : FlatComp). has p.evaluated c.goal) (λ c. unevaluated c.goal) r.comps in omega (arith, s, z, n);
   }
     where
       others : (j : ℕ) → (j ≡ 0 → ⊥) → passed_up_to [] j ≡ 0
@@ -139,9 +142,9 @@ module _ (visits : List (List VisitClass)) (r : FlatRule) where
         from m = elim (Contains-push_cases before item (Eval o) m) [ inl n ↦ ap (λ s. has s o) same ∙ (follows.evaluated o).1 n | inr e ↦ absurd (other o e) ]
 
     -- an item that ends a visit at one occurrence
-    follows-end : (item : PlanItem) (k v : ℕ) → ((o : Occ) → item ≡ Eval o → ⊥) → k < length (symbols_of r) → v ≡ suc (ended before k) → raised item k ≡ 1 → ((j : ℕ) → (j ≡ k → ⊥) → raised item j ≡ 0)
+    follows-end : (item : PlanItem) (k v : ℕ) → v < 2 ^ 16 → ((o : Occ) → item ≡ Eval o → ⊥) → k < length (symbols_of r) → v ≡ suc (ended before k) → raised item k ≡ 1 → ((j : ℕ) → (j ≡ k → ⊥) → raised item j ≡ 0)
         → q.evaluated ≡ p.evaluated → Gave visits r k (v + first k) p.given q.given → q.made.items ≡ slice_set p.made.items k v → Follows visits r (before ++ item ∷ []) q
-    follows-end item k v other within next one none same gave made = record {
+    follows-end item k v fits other within next one none same gave made = record {
       evaluated = evaluated-push item other same;
       given = given-more (passed_up_to before) (passed_up_to (before ++ item ∷ [])) k (v + first k)
           (let a = passed-ended before k in omega arith)
@@ -154,22 +157,23 @@ module _ (visits : List (List VisitClass)) (r : FlatRule) where
             ∙ (let b = ended-push before item k in let t : v ≡ ended (before ++ item ∷ []) k = omega arith in t ∙ ap (ended (before ++ item ∷ [])) (sym e))))
         | inr n ↦ ap (λ m. slice_index m j) made ∙ (get_or-set_other p.made.items k j v 0 n ∙ (follows.made j l ∙ (let b = ended-push before item j in let z = none j n in omega arith)))
       ];
+      small = All-same (λ n. n < 2 ^ 16) q.made.items (slice_set p.made.items k v) made (All-set (λ n. n < 2 ^ 16) p.made.items k v fits follows.small);
       counted =
           let a = follows.counted in
           let s = sum_by-set (λ (x : ℕ). x) p.made.items k v 0 (let b = follows.each in omega arith) in
           let was = follows.made k within in
           let now = ap sum made in
-          let z = ap size same in
+          let z = ap (λ (s : Occurrences). count_by (λ (c : FlatComp). has s c.goal) r.comps) same in
           let l = length_push before item in
           omega (arith, a, s, was, now, z, l);
     }
 
     -- a visit of a child
-    pub follows-visit : (symbols : List FlatSymbol) (k v : ℕ) → ((clause : ℕ) → Allows symbols visits r clause before (Visit k v))
+    pub follows-visit : (symbols : List FlatSymbol) (k v : ℕ) → v < 2 ^ 16 → ((clause : ℕ) → Allows symbols visits r clause before (Visit k v))
         → q.evaluated ≡ p.evaluated → Gave visits r k v p.given q.given → q.made.items ≡ slice_set p.made.items k v → Follows visits r (before ++ Visit k v ∷ []) q
-    follows-visit symbols zero v allows same gave made = absurd (let a = (allows 0).0 in omega (arith, a))
-    follows-visit symbols (suc k) v allows same gave made =
-        follows-end (Visit (suc k) v) (suc k) v (λ o e. absurd (cc)) (within v (allows 0).1 (allows 0).2) (allows 2) (raised-visit_itself k v) (raised-visit k v)
+    follows-visit symbols zero v fits allows same gave made = absurd (let a = (allows 0).0 in omega (arith, a))
+    follows-visit symbols (suc k) v fits allows same gave made =
+        follows-end (Visit (suc k) v) (suc k) v fits (λ o e. absurd (cc)) (within v (allows 0).1 (allows 0).2) (allows 2) (raised-visit_itself k v) (raised-visit k v)
         same (subst (λ n. Gave visits r (suc k) n p.given q.given) (omega arith) gave) made
       where
         within : (w : ℕ) (class : VisitClass) → IsClassAt visits r (suc k) w class → suc k < length (symbols_of r)
@@ -177,21 +181,22 @@ module _ (visits : List (List VisitClass)) (r : FlatRule) where
         within (suc w) class (s, row, e, _, _) = slice_get_within (symbols_of r) (suc k) s e
 
     -- the end of a visit
-    pub follows-leave : (symbols : List FlatSymbol) (v : ℕ) → ((clause : ℕ) → Allows symbols visits r clause before (Leave v))
+    pub follows-leave : (symbols : List FlatSymbol) (v : ℕ) → v < 2 ^ 16 → ((clause : ℕ) → Allows symbols visits r clause before (Leave v))
         → q.evaluated ≡ p.evaluated → Gave visits r 0 (v + 1) p.given q.given → q.made.items ≡ slice_set p.made.items 0 v → Follows visits r (before ++ Leave v ∷ []) q
-    follows-leave symbols v allows same gave made =
-        follows-end (Leave v) 0 v (λ o e. absurd (cc)) (omega arith) (let a = (allows 5).0 in omega (arith, a)) refl (raised-leave v) same gave made
+    follows-leave symbols v fits allows same gave made =
+        follows-end (Leave v) 0 v fits (λ o e. absurd (cc)) (omega arith) (let a = (allows 5).0 in omega (arith, a)) refl (raised-leave v) same gave made
 
     -- an evaluation
-    pub follows-eval : (symbols : List FlatSymbol) (o : Occ) → ((clause : ℕ) → Allows symbols visits r clause before (Eval o))
-        → ((x : Occ) → has q.evaluated x ≡ (is_same_occ o x || has p.evaluated x)) → size q.evaluated ≡ size p.evaluated + cond (has p.evaluated o) 0 1
+    pub follows-eval : (symbols : List FlatSymbol) (o : Occ) → IsRule symbols r → ((clause : ℕ) → Allows symbols visits r clause before (Eval o))
+        → ((x : Occ) → has q.evaluated x ≡ (is_same_occ o x || has p.evaluated x))
         → q.given ≡ p.given → q.made ≡ p.made → Follows visits r (before ++ Eval o ∷ []) q
-    follows-eval symbols o allows added more given made = record {
+    follows-eval symbols o rule allows added given made = record {
       evaluated = λ x. (to x, from x);
       given = λ x. (λ h. still x ((follows.given x).0 (sym (ap (λ s. has s x) given) ∙ h)), λ g. ap (λ s. has s x) given ∙ (follows.given x).1 (back x g));
       each = ap (λ (m : _). length m.items) made ∙ follows.each;
       made = λ k l. ap (λ (m : _). slice_index m.items k) made ∙ (follows.made k l ∙ (let b = ended-push before (Eval o) k in let z = raised-eval o k in omega arith));
-      counted = let a = follows.counted in let l = length_push before (Eval o) in let m = ap (λ (m : _). sum m.items) made in let n = more ∙ ap (λ b. size p.evaluated + cond b 0 1) unseen in omega (arith, a, l, m, n);
+      small = All-same (λ n. n < 2 ^ 16) q.made.items p.made.items (ap (λ (m : _). m.items) made) follows.small;
+      counted = let a = follows.counted in let l = length_push before (Eval o) in let m = ap (λ (m : _). sum m.items) made in let n = count-more o (has p.evaluated) (has q.evaluated) added r.comps rule.once (allows 1).0 unseen in omega (arith, a, l, m, n);
     }
       where
         unseen : has p.evaluated o ≡ false
@@ -228,12 +233,12 @@ on_ok3 (Ok x) p q s f = f p q s
 on_ok3 (Err e) p q s f = tt
 
 module _ (visits : List (List VisitClass)) (r : FlatRule) (item : PlanItem) (p q : Progress) where
-  pub goes-eval : (o : Occ) → item ≡ Eval o → ((x : Occ) → has q.evaluated x ≡ (is_same_occ o x || has p.evaluated x)) → size q.evaluated ≡ size p.evaluated + cond (has p.evaluated o) 0 1
+  pub goes-eval : (o : Occ) → item ≡ Eval o → ((x : Occ) → has q.evaluated x ≡ (is_same_occ o x || has p.evaluated x))
       → q.given ≡ p.given → q.made ≡ p.made → GoesOn visits r item p q
-  goes-eval o e added more given made = subst (λ i. GoesOn visits r i p q) (sym e) (λ symbols before follows allows. follows-eval visits r before p q follows symbols o allows added more given made)
+  goes-eval o e added given made = subst (λ i. GoesOn visits r i p q) (sym e) (λ symbols before rule follows allows. follows-eval visits r before p q follows symbols o rule allows added given made)
 
-  pub goes-visit : (k v : ℕ) → item ≡ Visit k v → q.evaluated ≡ p.evaluated → Gave visits r k v p.given q.given → q.made.items ≡ slice_set p.made.items k v → GoesOn visits r item p q
-  goes-visit k v e same gave made = subst (λ i. GoesOn visits r i p q) (sym e) (λ symbols before follows allows. follows-visit visits r before p q follows symbols k v allows same gave made)
+  pub goes-visit : (k v : ℕ) → v < 2 ^ 16 → item ≡ Visit k v → q.evaluated ≡ p.evaluated → Gave visits r k v p.given q.given → q.made.items ≡ slice_set p.made.items k v → GoesOn visits r item p q
+  goes-visit k v fits e same gave made = subst (λ i. GoesOn visits r i p q) (sym e) (λ symbols before rule follows allows. follows-visit visits r before p q follows symbols k v fits allows same gave made)
 
-  pub goes-leave : (v : ℕ) → item ≡ Leave v → q.evaluated ≡ p.evaluated → Gave visits r 0 (v + 1) p.given q.given → q.made.items ≡ slice_set p.made.items 0 v → GoesOn visits r item p q
-  goes-leave v e same gave made = subst (λ i. GoesOn visits r i p q) (sym e) (λ symbols before follows allows. follows-leave visits r before p q follows symbols v allows same gave made)
+  pub goes-leave : (v : ℕ) → v < 2 ^ 16 → item ≡ Leave v → q.evaluated ≡ p.evaluated → Gave visits r 0 (v + 1) p.given q.given → q.made.items ≡ slice_set p.made.items 0 v → GoesOn visits r item p q
+  goes-leave v fits e same gave made = subst (λ i. GoesOn visits r i p q) (sym e) (λ symbols before rule follows allows. follows-leave visits r before p q follows symbols v fits allows same gave made)

@@ -3,3 +3,4 @@ pub mod Classes
 pub mod Steps
 pub mod Expressions
 pub mod Faults
+pub mod Verdicts

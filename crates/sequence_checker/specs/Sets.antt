@@ -1,7 +1,6 @@
 -- Sets of attribute occurrences, by what they have.
 use Rattle.std.specs.Prelude.{ℕ, Bool, ◌&&◌, nat_eq, List}
 use Rattle.std.specs.List.{list_any, list_all}
-use Rattle.std.specs.HashSet as bag
 use Rattle.lido_base.specs.declared.ids.AttrId.{AttrId}
 use Rattle.flat_grammar.specs.declared.flat.Occ.{Occ}
 use Rattle.sequence_checker.specs.declared.set.Occurrences.{Occurrences}
@@ -13,10 +12,6 @@ is_pair_of o p = nat_eq o.occ p.0 && nat_eq o.attr.0 p.1
 -- the set has the occurrence
 unfoldable pub has : Occurrences → Occ → Bool
 has s o = list_any (is_pair_of o) s.pairs.keys
-
--- how many occurrences the set has
-unfoldable pub size : Occurrences → ℕ
-size s = bag.hash_set_len s.pairs
 
 -- the set has all these attributes of the occurrence
 abbrev pub has_each : Occurrences → ℕ → List AttrId → Bool

@@ -1,16 +1,18 @@
 -- What the checker keeps of the items of a sequence that it has seen.
-use Rattle.std.specs.Prelude.{◌≡◌, ◌↔◌, ℕ, zero, suc, ◌<◌, ◌≤◌, ◌+◌, Bool, ◌||◌, IsTrue, List, [], Option, Some, None, Contains, count_by, length, slice_index, sum, ◌++◌, ◌∷◌}
+use Rattle.std.specs.Prelude.{◌≡◌, ◌↔◌, ℕ, zero, suc, ◌<◌, ◌≤◌, ◌+◌, Bool, ◌||◌, IsTrue, List, [], Option, Some, None, Contains, count_by, length, slice_index, sum, All, ◌^◌, ◌++◌, ◌∷◌}
 use Rattle.lido_base.specs.declared.ids.AttrId.{AttrId}
 use Rattle.flat_grammar.specs.declared.flat.Occ.{Occ}
 use Rattle.flat_grammar.specs.declared.flat.FlatRule.{FlatRule}
 use Rattle.flat_grammar.specs.declared.flat.FlatSymbol.{FlatSymbol}
+use Rattle.flat_grammar.specs.declared.flat.FlatComp.{FlatComp}
+use Rattle.flat_grammar.specs.WellFormed.{IsRule}
 use Rattle.flat_grammar.specs.declared.plan.VisitClass.{VisitClass}
 use Rattle.flat_grammar.specs.declared.plan.PlanItem.{PlanItem}
 use Rattle.flat_grammar.specs.Rules.{symbols_of}
 use Rattle.flat_grammar.specs.SoundPlan.{is_leave, visits_made, segment_after, IsEvaluated, Allows}
 use Rattle.sequence_checker.specs.declared.set.Occurrences.{Occurrences}
 use Rattle.sequence_checker.specs.declared.progress.Progress.{Progress}
-use Rattle.sequence_checker.specs.Sets.{has, size, is_one_of}
+use Rattle.sequence_checker.specs.Sets.{has, is_one_of}
 use Rattle.sequence_checker.specs.Classes.{class_of}
 
 -- how many visits of the symbol at an occurrence came to their end: the left side's by Leave items, a child's by its visits
@@ -48,8 +50,9 @@ module _ (visits : List (List VisitClass)) (r : FlatRule) where
     pub given : (o : Occ) → IsTrue (has p.given o) ↔ IsGiven before o
     pub each : length p.made.items ≡ length (symbols_of r)
     pub made : (k : ℕ) → k < length (symbols_of r) → slice_index p.made.items k ≡ ended before k
-    pub counted : length before ≡ size p.evaluated + sum p.made.items
+    pub small : All (λ n. n < 2 ^ 16) p.made.items
+    pub counted : length before ≡ count_by (λ (c : FlatComp). has p.evaluated c.goal) r.comps + sum p.made.items
 
   -- whatever items the checker has seen, it has then seen this one too, if all clauses allow it there
   abbrev pub GoesOn : PlanItem → Progress → Progress → Type 0
-  GoesOn item p q = (symbols : List FlatSymbol) (before : List PlanItem) → Follows before p → ((clause : ℕ) → Allows symbols visits r clause before item) → Follows (before ++ item ∷ []) q
+  GoesOn item p q = (symbols : List FlatSymbol) (before : List PlanItem) → IsRule symbols r → Follows before p → ((clause : ℕ) → Allows symbols visits r clause before item) → Follows (before ++ item ∷ []) q

@@ -94,12 +94,7 @@ impl Progress {
     }
 
     /// The clause that the end of a visit breaks first.
-    fn leave_fault(
-        &self,
-        visits: &[List<VisitClass>],
-        rule: &FlatRule,
-        visit: u16,
-    ) -> Option<u32>
+    fn leave_fault(&self, visits: &[List<VisitClass>], rule: &FlatRule, visit: u16) -> Option<u32>
         ensures { (symbols : List Symbol) → JudgesItem symbols visits.now rule.now self.now (Leave visit) result }
     {
         let Some(class) = class_at(visits, rule, 0, visit as usize) else {

@@ -123,6 +123,7 @@ impl Progress {
         ensures evaluated { OnOk result (self.new.evaluated ≡ self.old.evaluated) }
         ensures given { OnOk result (Gave visits.now rule.now occ visit self.old.given self.new.given) }
         ensures made { OnOk result (self.new.made.items ≡ slice_set self.old.made.items occ visit) }
+        ensures small { visit < 2 ^ 16 }
     {
         self.note(occ, visit);
         self.give(visits, rule, occ, visit as usize)
@@ -138,6 +139,7 @@ impl Progress {
         ensures evaluated { OnOk result (self.new.evaluated ≡ self.old.evaluated) }
         ensures given { OnOk result (Gave visits.now rule.now 0 (visit + 1) self.old.given self.new.given) }
         ensures made { OnOk result (self.new.made.items ≡ slice_set self.old.made.items 0 visit) }
+        ensures small { visit < 2 ^ 16 }
     {
         self.note(0, visit);
         self.give(visits, rule, 0, visit as usize + 1)

@@ -1,8 +1,8 @@
 //! Sets of attribute occurrences.
-ghost use Rattle.std.specs.Prelude.{◌≡◌, ◌+◌, ◌||◌, false, OnOk, if◌then◌else◌};
+ghost use Rattle.std.specs.Prelude.{◌≡◌, ◌||◌, false, OnOk};
 ghost use Rattle.flat_grammar.specs.declared.flat.Occ.{Occ as Occurrence};
 ghost use Rattle.flat_grammar.specs.WellFormed.{is_same_occ};
-ghost use Rattle.sequence_checker.specs.Sets.{has, size};
+ghost use Rattle.sequence_checker.specs.Sets.{has};
 
 use flat_grammar::Occ;
 use std::alloc::{AllocFailed, Global};
@@ -16,10 +16,9 @@ pub struct Occurrences {
 
 impl Occurrences {
     /// The set without members.
-    #[tactic(auto, unfolding(crate::specs::Sets::has, crate::specs::Sets::size))]
+    #[tactic(auto, unfolding(crate::specs::Sets::has))]
     pub fn new(alloc: Global) -> Occurrences
-        ensures empty { (o : Occurrence) → has result o ≡ false }
-        ensures none { size result ≡ 0 }
+        ensures { (o : Occurrence) → has result o ≡ false }
     {
         Occurrences {
             pairs: HashSet::new(alloc),
@@ -35,10 +34,9 @@ impl Occurrences {
     }
 
     /// Makes it a member.
-    #[tactic(auto, unfolding(crate::specs::Sets::has, crate::specs::Sets::size))]
+    #[tactic(auto, unfolding(crate::specs::Sets::has))]
     pub fn add(&mut self, o: Occ) -> Result<(), AllocFailed<(u16, u16)>>
-        ensures added { OnOk result ((p : Occurrence) → has self.new p ≡ (is_same_occ o p || has self.old p)) }
-        ensures one_more { OnOk result (size self.new ≡ size self.old + (if has self.old o then 0 else 1)) }
+        ensures { OnOk result ((p : Occurrence) → has self.new p ≡ (is_same_occ o p || has self.old p)) }
     {
         self.pairs.insert((o.occ, o.attr.0))?;
         Ok(())

@@ -6,3 +6,4 @@ pub mod ExpressionLemmas
 pub mod ItemLemmas
 pub mod EndLemmas
 pub mod SequenceLemmas
+pub mod RowLemmas

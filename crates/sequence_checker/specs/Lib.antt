@@ -1,4 +1,5 @@
 pub mod Sets
+pub mod Rows
 pub mod Classes
 pub mod Steps
 pub mod Expressions

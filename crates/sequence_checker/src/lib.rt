@@ -5,6 +5,7 @@ mod fault;
 mod items;
 mod progress;
 mod reads;
+mod rows;
 mod sequence;
 mod set;
 mod visits;

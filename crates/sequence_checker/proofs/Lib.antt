@@ -7,3 +7,4 @@ pub mod ItemLemmas
 pub mod EndLemmas
 pub mod SequenceLemmas
 pub mod RowLemmas
+pub mod VerdictLemmas

@@ -59,16 +59,16 @@ module _ (x : FlatSymbol) (kind : Kind) (attrs : List AttrId) (i : ℕ) (d : Att
           where
             to : IsTrue (has_attribute new b) → Contains (take i attrs ++ slice_index_or attrs i d ∷ []) b
             to h = elim (either (is_same_occ (record { occ = 0; attr = slice_index_or attrs i d }) (record { occ = 0; attr = b })) (has_attribute set b) (sym (added (record { occ = 0; attr = b })) ∙ h)) [
-                | inl e ↦ subst (Contains (take i attrs ++ slice_index_or attrs i d ∷ [])) (ap (λ (o : Occ). o.attr) (same-occurrence (record { occ = 0; attr = slice_index_or attrs i d }) (record { occ = 0; attr = b }) e)) (Contains-push (take i attrs) (slice_index_or attrs i d))
-                | inr m ↦ Contains-append_left (take i attrs) (slice_index_or attrs i d ∷ []) b ((members.1 b).0 m)
-              ]
+              | inl e ↦ subst (Contains (take i attrs ++ slice_index_or attrs i d ∷ [])) (ap (λ (o : Occ). o.attr) (same-occurrence (record { occ = 0; attr = slice_index_or attrs i d }) (record { occ = 0; attr = b }) e)) (Contains-push (take i attrs) (slice_index_or attrs i d))
+              | inr m ↦ Contains-append_left (take i attrs) (slice_index_or attrs i d ∷ []) b ((members.1 b).0 m)
+            ]
 
             from : Contains (take i attrs ++ slice_index_or attrs i d ∷ []) b → IsTrue (has_attribute new b)
             from m = added (record { occ = 0; attr = b }) ∙ elim (Contains-push_cases (take i attrs) (slice_index_or attrs i d) b m) [
-                | inl n ↦ right (is_same_occ (record { occ = 0; attr = slice_index_or attrs i d }) (record { occ = 0; attr = b })) (has_attribute set b) ((members.1 b).1 n)
-                | inr e ↦ left (is_same_occ (record { occ = 0; attr = slice_index_or attrs i d }) (record { occ = 0; attr = b })) (has_attribute set b)
-                    (occurrence-same (record { occ = 0; attr = slice_index_or attrs i d }) (record { occ = 0; attr = b }) (λ j. record { occ = 0; attr = e j }))
-              ]
+              | inl n ↦ right (is_same_occ (record { occ = 0; attr = slice_index_or attrs i d }) (record { occ = 0; attr = b })) (has_attribute set b) ((members.1 b).1 n)
+              | inr e ↦ left (is_same_occ (record { occ = 0; attr = slice_index_or attrs i d }) (record { occ = 0; attr = b })) (has_attribute set b)
+                  (occurrence-same (record { occ = 0; attr = slice_index_or attrs i d }) (record { occ = 0; attr = b }) (λ j. record { occ = 0; attr = e j }))
+            ]
 
 module _ (x : FlatSymbol) (kind : Kind) (row : List VisitClass) (attrs : List AttrId) (same : attrs ≡ of_kind kind row) where
   numbered-apart : AreNumbered x kind attrs → AreApart x kind attrs

@@ -19,3 +19,8 @@ abbrev pub Verdict : List FlatSymbol → List FlatRule → List (List VisitClass
 Verdict symbols rules visits seqs (Ok _) = IsSound symbols rules visits seqs
 Verdict symbols rules visits seqs (Err (Unsound rule place clause)) = IsUnsound symbols rules visits seqs rule.0 place clause
 Verdict symbols rules visits seqs (Err Memory) = ⊥
+
+-- The answer is the verdict, or memory ran out.
+abbrev pub Judges : List FlatSymbol → List FlatRule → List (List VisitClass) → List (List PlanItem) → Result (Unit {0}) CheckFault → Type 0
+Judges symbols rules visits seqs (Err Memory) = Unit {0}
+Judges symbols rules visits seqs answer = Verdict symbols rules visits seqs answer

@@ -8,6 +8,8 @@ mod reads;
 mod rows;
 mod sequence;
 mod set;
+mod verdict;
 mod visits;
 
 pub use fault::CheckFault;
+pub use verdict::check;

@@ -16,9 +16,11 @@ returns-then-not-branch c =
     let k = c.loop-k.k in
     let x = c.index-symbols-k.result in
     let row = c.index-visits-k.result in
-    let within : k < length visits = omega (arith, c.loop-k-test.true, c.if-symbols-visits.false) in
-    ((λ h. never h), (λ all. never (sym c.if-not-branch.true ∙ c.in_ok-is_row.ensures.1 (subst (λ r. IsRow x r) (sym c.as_slice.ensures)
-    (AllZip-at IsRow symbols visits k x row all (slice_get_read symbols (length symbols) k x refl c.loop-k-test.true c.index-symbols-k.is) (slice_get_read visits (length visits) k row refl within c.index-visits-k.is))))))
+    let within : k < length visits = omega (arith, c.loop-k-test.true, c.if-symbols-visits.false) in (
+      (λ h. never h),
+      (λ all. never (sym c.if-not-branch.true ∙ c.in_ok-is_row.ensures.1 (subst (λ r. IsRow x r) (sym c.as_slice.ensures)
+          (AllZip-at IsRow symbols visits k x row all (slice_get_read symbols (length symbols) k x refl c.loop-k-test.true c.index-symbols-k.is) (slice_get_read visits (length visits) k row refl within c.index-visits-k.is))))),
+    )
 
 pub loop-k-preserved : goal.loop-k-preserved
 loop-k-preserved c =

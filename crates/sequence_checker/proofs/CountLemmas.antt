@@ -1,14 +1,14 @@
 -- How many goals are evaluated, and how many a rule can have.
-use Rattle.std.specs.Prelude.{Bool, true, false, cond, ◌||◌, IsTrue, All, AllPairs, Contains, map, count_by, sum_by, sum, slice_get, is_some, option_and_then}
-use Rattle.std.specs.List.{list_any, IsDistinct, slice_index_or}
+use Rattle.std.specs.Prelude.{Bool, true, false, cond, ◌||◌, AllPairs, Contains, map, count_by, sum_by, slice_get, is_some, option_and_then}
+use Rattle.std.specs.List.{list_any, slice_index_or}
 use Rattle.std.specs.Cmp.{IsEquivalence}
 use Rattle.std.specs.Bool.{Decides}
-use Rattle.std.proofs.Common.{◌≡◌, ℕ, zero, suc, ◌+◌, ◌*◌, ◌<◌, ◌≤◌, ◌⊎◌, inl, inr, List, [], ◌∷◌, ◌++◌, length, Option, Some, None, refl, arith, ap, sym, subst, ◌∙◌, nat_eq, eqb-true, eq-eqb, length-append}
+use Rattle.std.proofs.Common.{◌≡◌, ℕ, zero, suc, ◌+◌, ◌<◌, ◌≤◌, ◌⊎◌, inl, inr, List, [], ◌∷◌, ◌++◌, length, Option, Some, None, refl, arith, ap, sym, subst, ◌∙◌, length-append}
 use Rattle.std.proofs.lemmas.Bool.{cases_eq}
 use Rattle.std.proofs.lemmas.Option.{none-some, slice_get_cases}
 use Rattle.std.proofs.lemmas.List.{length-map}
 use Rattle.std.proofs.lemmas.List.Elements.{Contains-get_or}
-use Rattle.std.proofs.lemmas.List.Sums.{sum_by-cons, count_by-le-length, sum_by-le}
+use Rattle.std.proofs.lemmas.List.Sums.{sum_by-cons}
 use Rattle.std.proofs.lemmas.List.Kept.{AllPairs-cons}
 use Rattle.std.proofs.lemmas.List.Folds.{list_any-append}
 use Rattle.std.proofs.lemmas.Map.Made.{length-le_from_is_member, IsDistinct-from_AllPairs}

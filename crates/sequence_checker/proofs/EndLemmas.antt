@@ -1,5 +1,5 @@
 -- What the checker finds of the end of a sequence is the first clause that it breaks.
-use Rattle.std.specs.Prelude.{Bool, true, false, not, ◌&&◌, ◌||◌, IsTrue, ◌↔◌, All, Contains, slice_get, slice_index, is_some, option_and_then, map, take}
+use Rattle.std.specs.Prelude.{Bool, true, false, not, ◌||◌, IsTrue, ◌↔◌, slice_get, slice_index, option_and_then}
 use Rattle.std.specs.List.{list_all, slice_index_or}
 use Rattle.std.proofs.Common.{◌≡◌, ℕ, zero, suc, ◌+◌, ◌-◌, ◌<◌, ◌≤◌, ◌⊎◌, inl, inr, List, [], ◌∷◌, ◌++◌, length, Option, Some, None, refl, arith, ap, sym, subst, ◌∙◌, nat_eq, eqb-true, eq-eqb}
 use Rattle.std.proofs.lemmas.Bool.{cases_eq}
@@ -7,22 +7,20 @@ use Rattle.std.proofs.lemmas.Option.{none-some, slice_get_within, slice_get-get_
 use Rattle.std.proofs.lemmas.List.{length_push}
 use Rattle.std.proofs.lemmas.List.Folds.{list_all-map}
 use Rattle.lido_base.specs.declared.ids.SymId.{SymId}
-use Rattle.flat_grammar.specs.declared.flat.Occ.{Occ}
 use Rattle.flat_grammar.specs.declared.flat.FlatSymbol.{FlatSymbol}
 use Rattle.flat_grammar.specs.declared.flat.FlatRule.{FlatRule}
 use Rattle.flat_grammar.specs.declared.flat.FlatComp.{FlatComp}
 use Rattle.flat_grammar.specs.declared.plan.VisitClass.{VisitClass}
 use Rattle.flat_grammar.specs.declared.plan.PlanItem.{PlanItem}
 use Rattle.flat_grammar.specs.declared.plan.PlanItem.TheVariants.{Eval, Visit, Leave}
-use Rattle.flat_grammar.specs.Rules.{symbols_of, symbol_at}
 use Rattle.flat_grammar.specs.WellFormed.{is_nonterminal}
-use Rattle.flat_grammar.specs.SoundPlan.{visits_made, IsEvaluated, goals_of, AllowsEnd}
+use Rattle.flat_grammar.specs.SoundPlan.{visits_made, goals_of, AllowsEnd}
 use Rattle.flat_grammar.proofs.Lists.{held}
 use Rattle.sequence_checker.specs.declared.progress.Progress.{Progress}
 use Rattle.sequence_checker.specs.Sets.{has}
-use Rattle.sequence_checker.specs.Steps.{ended, Follows}
+use Rattle.sequence_checker.specs.Steps.{Follows}
 use Rattle.sequence_checker.specs.Faults.{IsFirstBroken, is_all, is_visited, visit_ended, last_ended}
-use Rattle.sequence_checker.proofs.Bools.{never, both, together, either, left, right, all-tested, tested-all}
+use Rattle.sequence_checker.proofs.Bools.{never, all-tested, tested-all}
 
 -- the last item of a list that is put together
 last-of-push : (front : List PlanItem) (item : PlanItem) → slice_get (front ++ item ∷ []) (length (front ++ item ∷ []) - 1) ≡ Some item

@@ -1,10 +1,9 @@
 -- What the checker finds of an item is the first clause that it breaks.
-use Rattle.std.specs.Prelude.{Bool, true, false, ◌&&◌, ◌||◌, IsTrue, ◌↔◌, All, AllPairs, Contains, slice_get, slice_index, is_some, option_and_then}
+use Rattle.std.specs.Prelude.{false, IsTrue, ◌↔◌, All, AllPairs, Contains, slice_get, slice_index, is_some, option_and_then}
 use Rattle.std.specs.List.{list_all, slice_index_or}
-use Rattle.std.proofs.Common.{◌≡◌, ℕ, zero, suc, ◌+◌, ◌<◌, ◌≤◌, ◌⊎◌, inl, inr, List, [], ◌∷◌, ◌++◌, length, Option, Some, None, refl, arith, ap, sym, subst, ◌∙◌}
+use Rattle.std.proofs.Common.{◌≡◌, ℕ, zero, suc, ◌<◌, ◌≤◌, ◌⊎◌, inl, inr, List, [], ◌∷◌, length, Option, Some, None, refl, arith, ap, sym, subst, ◌∙◌}
 use Rattle.std.proofs.lemmas.Bool.{cases_order}
 use Rattle.std.proofs.lemmas.Option.{none-some, slice_get_within}
-use Rattle.std.proofs.lemmas.List.Elements.{All-contains}
 use Rattle.lido_base.specs.declared.ids.AttrId.{AttrId}
 use Rattle.lido_base.specs.declared.ids.SymId.{SymId}
 use Rattle.flat_grammar.specs.declared.flat.Occ.{Occ}
@@ -15,15 +14,15 @@ use Rattle.flat_grammar.specs.declared.plan.VisitClass.{VisitClass}
 use Rattle.flat_grammar.specs.declared.plan.PlanItem.{PlanItem}
 use Rattle.flat_grammar.specs.declared.plan.PlanItem.TheVariants.{Eval, Visit, Leave}
 use Rattle.flat_grammar.specs.Rules.{symbols_of, symbol_at, dependencies}
-use Rattle.flat_grammar.specs.WellFormed.{attribute_of, IsRule}
-use Rattle.flat_grammar.specs.SoundPlan.{visits_made, segment_after, IsEvaluated, IsEvaluatedAll, IsClassAt, IsAtHand, goals_of, Allows}
+use Rattle.flat_grammar.specs.WellFormed.{attribute_of}
+use Rattle.flat_grammar.specs.SoundPlan.{visits_made, IsEvaluated, IsEvaluatedAll, IsClassAt, IsAtHand, goals_of, Allows}
 use Rattle.flat_grammar.proofs.Lists.{contains-nil, held}
 use Rattle.sequence_checker.specs.declared.progress.Progress.{Progress}
 use Rattle.sequence_checker.specs.Sets.{has, has_each}
-use Rattle.sequence_checker.specs.Classes.{row_of, class_of}
+use Rattle.sequence_checker.specs.Classes.{class_of}
 use Rattle.sequence_checker.specs.Steps.{ended, passed_up_to, passing, IsGiven, Follows, is_at_hand}
 use Rattle.sequence_checker.specs.Faults.{IsFirstBroken, JudgesItem}
-use Rattle.sequence_checker.proofs.Bools.{never, both, together, either, left, right, all-tested, tested-all}
+use Rattle.sequence_checker.proofs.Bools.{never, either, left, right, all-tested, tested-all}
 use Rattle.sequence_checker.proofs.GoalLemmas.{computation-goal}
 
 -- computations of one goal are one

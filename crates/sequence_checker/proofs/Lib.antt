@@ -8,3 +8,4 @@ pub mod EndLemmas
 pub mod SequenceLemmas
 pub mod RowLemmas
 pub mod VerdictLemmas
+pub mod IndexLemmas

@@ -2,8 +2,8 @@
 use Rattle.std.specs.Prelude.{Bool, true, false, ◌||◌, not, IsTrue, ◌↔◌, All, AllPairs, Contains, slice_get, is_some, flat_map, IfOk}
 use mathlib.Core.Bool.{beq}
 use Rattle.std.specs.List.{AllZip, slice_index_or}
-use Rattle.std.proofs.Common.{◌≡◌, ℕ, zero, suc, ◌+◌, ◌<◌, ◌≤◌, ◌⊎◌, inl, inr, List, [], ◌∷◌, ◌++◌, length, take, Option, Some, None, refl, arith, ap, sym, subst, ◌∙◌, nat_eq, Result, Ok, Err}
-use Rattle.std.proofs.lemmas.Option.{none-some, slice_get_within, slice_get-get_or, get_or_from_slice_get}
+use Rattle.std.proofs.Common.{◌≡◌, ℕ, zero, suc, ◌+◌, ◌<◌, ◌≤◌, inl, inr, List, [], ◌∷◌, ◌++◌, length, take, Option, Some, None, refl, arith, ap, sym, subst, ◌∙◌, nat_eq, Result, Ok, Err}
+use Rattle.std.proofs.lemmas.Option.{none-some, slice_get_within, get_or_from_slice_get}
 use Rattle.std.proofs.lemmas.List.{take_more, take_all, length-take}
 use Rattle.std.proofs.lemmas.List.Quantifiers.{all_pairs_push}
 use Rattle.std.proofs.lemmas.List.Elements.{All-push, All-contains, Contains-get_or, Contains-push, Contains-push_cases, Contains-append_left}
@@ -15,7 +15,7 @@ use Rattle.flat_grammar.specs.declared.flat.FlatSymbol.{FlatSymbol}
 use Rattle.flat_grammar.specs.declared.plan.VisitClass.{VisitClass}
 use Rattle.flat_grammar.specs.WellFormed.{is_same_occ}
 use Rattle.flat_grammar.specs.SoundPlan.{IsAttribute, IsRow, of_kind}
-use Rattle.flat_grammar.proofs.Lists.{held, slice_get-contains, slice_get-take, AllZip-at}
+use Rattle.flat_grammar.proofs.Lists.{held, slice_get-contains, slice_get-take}
 use Rattle.sequence_checker.specs.declared.set.Occurrences.{Occurrences}
 use Rattle.sequence_checker.specs.Sets.{has}
 use Rattle.sequence_checker.specs.Rows.{class_part, has_attribute, AreNumbered, AreApart, HasMembers}

@@ -1,25 +1,24 @@
 -- What the checker keeps goes on from item to item.
-use Rattle.std.specs.Prelude.{Bool, true, false, cond, ◌||◌, IsTrue, ◌↔◌, Contains, slice_get, slice_index, slice_set, nat_eq, sum, sum_by, count_by, replicate, All, ◌^◌}
+use Rattle.std.specs.Prelude.{Bool, true, false, cond, ◌||◌, IsTrue, ◌↔◌, Contains, slice_index, slice_set, nat_eq, sum, count_by, replicate, ◌^◌}
 use Rattle.std.specs.List.{list_any}
-use Rattle.std.proofs.Common.{◌≡◌, ℕ, zero, suc, ◌+◌, ◌<◌, ◌≤◌, ◌⊎◌, inl, inr, List, [], ◌∷◌, ◌++◌, length, Option, Some, None, refl, arith, ap, sym, subst, ◌∙◌, eqb-true, eq-eqb, Result, Ok, Err, OnOk}
-use Rattle.std.proofs.lemmas.Bool.{cases_eq, cases_order}
+use Rattle.std.proofs.Common.{◌≡◌, ℕ, zero, suc, ◌+◌, ◌<◌, ◌≤◌, inl, inr, List, [], ◌∷◌, ◌++◌, length, None, refl, arith, ap, sym, subst, ◌∙◌, eqb-true, eq-eqb, Result, Ok, Err, OnOk}
+use Rattle.std.proofs.lemmas.Bool.{cases_eq}
 use Rattle.std.proofs.lemmas.Option.{slice_get_within}
 use Rattle.std.proofs.lemmas.List.{length_push, get_or-set_same, get_or-set_other, length-set, get_or-replicate, length-replicate}
 use Rattle.std.proofs.lemmas.List.Sums.{sum_by_push, sum_by-set}
 use Rattle.std.proofs.lemmas.List.Folds.{sum_by-replicate}
 use Rattle.std.proofs.lemmas.List.Elements.{Contains-push, Contains-push_cases, Contains-append_left, All-set, All-same, All-replicate}
 use Rattle.lido_base.specs.declared.ids.AttrId.{AttrId}
-use Rattle.lido_base.specs.declared.ids.SymId.{SymId}
 use Rattle.flat_grammar.specs.declared.flat.Occ.{Occ}
 use Rattle.flat_grammar.specs.declared.flat.FlatSymbol.{FlatSymbol}
 use Rattle.flat_grammar.specs.declared.flat.FlatRule.{FlatRule}
 use Rattle.flat_grammar.specs.declared.plan.VisitClass.{VisitClass}
 use Rattle.flat_grammar.specs.declared.plan.PlanItem.{PlanItem}
 use Rattle.flat_grammar.specs.declared.plan.PlanItem.TheVariants.{Eval, Visit, Leave}
-use Rattle.flat_grammar.specs.Rules.{symbols_of, symbol_at}
+use Rattle.flat_grammar.specs.Rules.{symbols_of}
 use Rattle.flat_grammar.specs.declared.flat.FlatComp.{FlatComp}
 use Rattle.flat_grammar.specs.WellFormed.{is_same_occ, IsRule}
-use Rattle.flat_grammar.specs.SoundPlan.{is_leave, is_visit_of, visits_made, segment_after, IsEvaluated, IsClassAt, Allows}
+use Rattle.flat_grammar.specs.SoundPlan.{is_leave, is_visit_of, IsEvaluated, IsClassAt, Allows}
 use Rattle.flat_grammar.proofs.Lists.{contains-nil}
 use Rattle.sequence_checker.specs.declared.set.Occurrences.{Occurrences}
 use Rattle.sequence_checker.specs.declared.progress.Progress.{Progress}

@@ -1,15 +1,15 @@
 -- The check's answer is the only one.
 use Rattle.std.specs.Prelude.{Bool, false, slice_get, IsTrue, ◌↔◌}
 use Rattle.std.specs.List.{AllZip, slice_index_or}
-use Rattle.std.proofs.Common.{◌≡◌, ℕ, ◌+◌, ◌<◌, ◌⊎◌, inl, inr, List, length, take, Option, Some, None, Result, Ok, Err, refl, ap, sym, subst, ◌∙◌, arith}
+use Rattle.std.proofs.Common.{◌≡◌, ℕ, ◌+◌, ◌<◌, inl, inr, List, length, take, Option, Some, None, Result, Ok, Err, refl, ap, sym, subst, ◌∙◌}
 use Rattle.std.proofs.lemmas.Option.{slice_get_read}
-use Rattle.lido_base.specs.Phases.{IsThe, Gives}
+use Rattle.lido_base.specs.Phases.{Gives}
 use Rattle.lido_base.specs.declared.ids.RuleId.{RuleId}
 use Rattle.flat_grammar.specs.declared.flat.FlatSymbol.{FlatSymbol}
 use Rattle.flat_grammar.specs.declared.flat.FlatRule.{FlatRule}
 use Rattle.flat_grammar.specs.declared.plan.VisitClass.{VisitClass}
 use Rattle.flat_grammar.specs.declared.plan.PlanItem.{PlanItem}
-use Rattle.flat_grammar.specs.SoundPlan.{HasRows, IsSoundSequence, IsFault, IsSound, IsUnsound, of_rows, of_rule}
+use Rattle.flat_grammar.specs.SoundPlan.{HasRows, IsSoundSequence, IsSound, IsUnsound, of_rows, of_rule}
 use Rattle.flat_grammar.proofs.SoundPlanLemmas.{IsUnsound-only, IsSound-no_fault}
 use Rattle.sequence_checker.specs.declared.fault.CheckFault.{CheckFault}
 use Rattle.sequence_checker.specs.declared.fault.CheckFault.TheVariants.{Unsound, Memory}

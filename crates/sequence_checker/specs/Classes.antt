@@ -1,5 +1,5 @@
 -- What passes in a visit of the symbol at an occurrence of a rule, as a function.
-use Rattle.std.specs.Prelude.{ℕ, zero, suc, List, Option, Some, None, option_and_then, slice_get}
+use Rattle.std.specs.Prelude.{ℕ, zero, suc, List, Option, None, option_and_then, slice_get}
 use Rattle.lido_base.specs.declared.ids.SymId.{SymId}
 use Rattle.flat_grammar.specs.declared.flat.FlatRule.{FlatRule}
 use Rattle.flat_grammar.specs.declared.plan.VisitClass.{VisitClass}

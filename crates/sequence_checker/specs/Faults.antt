@@ -1,5 +1,5 @@
 -- Which clause is the first one broken, as the checker finds it.
-use Rattle.std.specs.Prelude.{◌≡◌, ℕ, ◌<◌, Bool, true, not, ◌||◌, List, Option, Some, None, length, nat_eq, option_and_then, slice_get, slice_index, ◌-◌}
+use Rattle.std.specs.Prelude.{ℕ, ◌<◌, Bool, true, not, ◌||◌, List, Option, Some, None, length, nat_eq, option_and_then, slice_get, slice_index, ◌-◌}
 use Rattle.lido_base.specs.declared.ids.SymId.{SymId}
 use Rattle.flat_grammar.specs.declared.flat.FlatSymbol.{FlatSymbol}
 use Rattle.flat_grammar.specs.declared.flat.FlatRule.{FlatRule}

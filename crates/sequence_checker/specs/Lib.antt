@@ -4,4 +4,5 @@ pub mod Classes
 pub mod Steps
 pub mod Expressions
 pub mod Faults
+pub mod Goals
 pub mod Verdicts

@@ -7,11 +7,13 @@ ghost use Rattle.flat_grammar.specs.declared.plan.PlanItem.TheVariants.{Eval, Vi
 ghost use Rattle.flat_grammar.specs.declared.plan.VisitClass.{VisitClass as Class};
 ghost use Rattle.flat_grammar.specs.declared.flat.FlatSymbol.{FlatSymbol as Symbol};
 ghost use Rattle.lido_base.specs.declared.ids.SymId.{SymId as SymbolId};
+ghost use Rattle.sequence_checker.specs.Goals.{IsIndexOf};
 ghost use Rattle.sequence_checker.specs.Sets.{has};
 ghost use Rattle.sequence_checker.specs.Faults.{JudgesItem, JudgesEnd, is_visited as all_visited, last_ended};
 
+use crate::goals::Goals;
 use crate::progress::Progress;
-use crate::visits::{class_at, computation_of, is_attribute, row_at};
+use crate::visits::{class_at, is_attribute, row_at};
 use flat_grammar::{FlatRule, FlatSymbol, Occ, PlanItem, VisitClass};
 use lido_base::{List, Memory, SymId};
 use std::alloc::Global;
@@ -41,15 +43,17 @@ impl Progress {
         alloc: Global,
         symbols: &[FlatSymbol],
         rule: &FlatRule,
+        goals: &Goals,
         goal: Occ,
     ) -> Result<Option<u32>, Memory>
-        requires { IsRule symbols.now rule.now }
+        requires rule { IsRule symbols.now rule.now }
+        requires goals { IsIndexOf rule.now.comps goals.now }
         ensures { IfOk result (λ fault. (visits : List (List Class)) → JudgesItem symbols.now visits rule.now self.now (Eval goal) fault) }
     {
         if !is_attribute(symbols, rule, goal) {
             return Ok(Some(IN_RANGE));
         }
-        let Some(comp) = computation_of(rule, goal) else {
+        let Some(comp) = goals.computation(rule, goal) else {
             return Ok(Some(GOAL_ONCE));
         };
         if self.evaluated.has(goal) {
@@ -116,13 +120,15 @@ impl Progress {
         symbols: &[FlatSymbol],
         visits: &[List<VisitClass>],
         rule: &FlatRule,
+        goals: &Goals,
         item: PlanItem,
     ) -> Result<Option<u32>, Memory>
-        requires { IsRule symbols.now rule.now }
+        requires rule { IsRule symbols.now rule.now }
+        requires goals { IsIndexOf rule.now.comps goals.now }
         ensures { IfOk result (λ fault. JudgesItem symbols.now visits.now rule.now self.now item fault) }
     {
         match item {
-            PlanItem::Eval(goal) => self.eval_fault(alloc, symbols, rule, goal),
+            PlanItem::Eval(goal) => self.eval_fault(alloc, symbols, rule, goals, goal),
             PlanItem::Visit { occ, visit } => Ok(self.visit_fault(visits, rule, occ, visit)),
             PlanItem::Leave { visit } => Ok(self.leave_fault(visits, rule, visit)),
         }

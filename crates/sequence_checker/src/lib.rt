@@ -2,6 +2,7 @@
 #![tactic(auto)]
 
 mod fault;
+mod goals;
 mod items;
 mod progress;
 mod reads;

@@ -5,6 +5,7 @@ ghost use Rattle.flat_grammar.specs.Rules.{attrs_of, symbols_of};
 ghost use Rattle.sequence_checker.specs.Verdicts.{HasFirstFault};
 
 use crate::fault::SequenceFault;
+use crate::goals::Goals;
 use crate::progress::Progress;
 use flat_grammar::{FlatRule, FlatSymbol, PlanItem, VisitClass};
 use lido_base::{List, Memory};
@@ -23,9 +24,10 @@ pub fn sequence_fault(
     requires few { sum_by (λ s. length (attrs_of symbols.now s)) (symbols_of rule.now) ≤ 1024 }
     ensures { IfOk result (HasFirstFault symbols.now visits.now rule.now seq.now) }
 {
+    let goals = Goals::of(alloc, rule)?;
     let mut progress = Progress::start(alloc, visits, rule)?;
     for (place, item) in seq.iter().enumerate() {
-        if let Some(clause) = progress.item_fault(alloc, symbols, visits, rule, *item)? {
+        if let Some(clause) = progress.item_fault(alloc, symbols, visits, rule, &goals, *item)? {
             return Ok(Some(SequenceFault {
                 place: place as u32,
                 clause,

@@ -1,11 +1,10 @@
 //! Symbols, attributes and visits at the occurrences of a rule.
-ghost use Rattle.std.specs.Prelude.{◌≡◌, None, Some, MatchOption, is_some, Contains};
+ghost use Rattle.std.specs.Prelude.{◌≡◌, None, Some, MatchOption, is_some};
 ghost use Rattle.flat_grammar.specs.Rules.{symbol_at as symbol_of};
 ghost use Rattle.flat_grammar.specs.WellFormed.{attribute_of};
-ghost use Rattle.flat_grammar.specs.SoundPlan.{goals_of};
 ghost use Rattle.sequence_checker.specs.Classes.{class_of, row_of};
 
-use flat_grammar::{FlatComp, FlatRule, FlatSymbol, Occ, VisitClass};
+use flat_grammar::{FlatRule, FlatSymbol, Occ, VisitClass};
 use lido_base::{List, SymId};
 
 /// The symbol at an occurrence of a rule.
@@ -60,16 +59,4 @@ pub fn class_at<'a>(
     }
     let row = row_at(visits, rule, occ)?;
     row.get(visit - 1)
-}
-
-/// The computation of a goal of the rule.
-pub fn computation_of<'a>(rule: &'a FlatRule, o: Occ) -> Option<&'a FlatComp>
-    ensures { MatchOption result (¬ Contains (goals_of rule.now) o) (λ c. Contains rule.now.comps c.now × (c.now.goal ≡ o)) }
-{
-    for comp in rule.comps.as_slice() {
-        if comp.goal == o {
-            return Some(comp);
-        }
-    }
-    None
 }

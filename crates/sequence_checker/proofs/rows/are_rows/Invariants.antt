@@ -1,4 +1,4 @@
-use Rattle.std.proofs.Common.{◌≡◌, take, length}
+use Rattle.std.proofs.Common.{take}
 use Rattle.std.specs.List.{AllZip}
 use Rattle.flat_grammar.specs.SoundPlan.{IsRow}
 use Rattle.sequence_checker.proofs.rows.are_rows.Given as goal

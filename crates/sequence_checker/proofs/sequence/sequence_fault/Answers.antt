@@ -1,4 +1,4 @@
-use Rattle.std.proofs.Common.{arith, take, length, ◌<◌, ◌^◌}
+use Rattle.std.proofs.Common.{arith, take}
 use Rattle.flat_grammar.specs.declared.plan.PlanItem.{PlanItem}
 use Rattle.flat_grammar.specs.declared.plan.PlanItem.TheVariants.{Eval}
 use Rattle.sequence_checker.proofs.SequenceLemmas.{place-fits, place-is, item-breaks, item-holds, item-seen, fault-at-end, no-fault, all-seen}

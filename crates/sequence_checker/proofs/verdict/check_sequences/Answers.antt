@@ -1,4 +1,4 @@
-use Rattle.std.proofs.Common.{◌≡◌, ◌<◌, ◌∙◌, ap, sym, arith, length}
+use Rattle.std.proofs.Common.{◌<◌, ◌∙◌, ap, sym, arith, length}
 use Rattle.std.specs.Prelude.{Some}
 use Rattle.sequence_checker.proofs.VerdictLemmas.{unsound-at, sound-at, found-at, first-same}
 use Rattle.sequence_checker.proofs.verdict.check_sequences.Goals as goal

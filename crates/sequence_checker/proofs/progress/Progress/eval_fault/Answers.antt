@@ -9,5 +9,5 @@ returns-then-not-branch c = λ visits before follows.
 
 pub returns : goal.returns
 returns c = λ visits before follows.
-    right-eval visits c.args.rule.now before c.args.self.now follows c.args.symbols.now c.args.goal c.in-Some.comp.now c.requires.once (sym c.is_attribute.ensures ∙ c.if-not-is_attribute.false) c.in-Some.ensures.0 c.in-Some.ensures.1
+    right-eval visits c.args.rule.now before c.args.self.now follows c.args.symbols.now c.args.goal c.in-Some.comp.now c.requires.rule.once (sym c.is_attribute.ensures ∙ c.if-not-is_attribute.false) c.in-Some.ensures.0 c.in-Some.ensures.1
     (sym c.has.ensures ∙ c.if-has.false) (sym c.in_ok-has_dependencies.ensures ∙ c.if-not-branch.false)

@@ -1,6 +1,5 @@
 //! What the check finds wrong with a plan.
 use lido_base::{Memory, RuleId};
-use std::alloc::{AllocError, AllocFailed};
 
 /// Why a plan isn't accepted.
 #[derive(Clone, Copy, Debug, PartialEq, Eq)]
@@ -9,7 +8,9 @@ pub enum CheckFault {
     Unsound {
         /// The rule whose sequence has it, the first one where the visits or the number of sequences are wrong.
         rule: RuleId,
-        /// The place in the sequence, from 0; the sequence's length where its end is the fault.
+        /// The place in the sequence, from 0; the sequence's length where its end is the fault. It has 32 bits whatever the plan:
+        /// before its first fault a sequence evaluates at most 1,024 goals, and makes fewer than 2^16 visits of each of at most
+        /// 2^16 symbols, since an item names a visit by 16 bits.
         place: u32,
         /// The clause that is broken, from 0 to 5.
         clause: u32,

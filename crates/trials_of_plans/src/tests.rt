@@ -423,7 +423,7 @@ fn sequences(alloc: Global, text: &[u8]) -> Result<List<List<PlanItem>>, Memory>
 }
 
 /// The grammar's value.
-fn grammar(alloc: Global, which: Grammar) -> Result<Flat, Memory> {
+fn flat_of(alloc: Global, which: Grammar) -> Result<Flat, Memory> {
     match which {
         Grammar::BareLeaf => bare_leaf::grammar(alloc),
         Grammar::LateInherited => late_inherited::grammar(alloc),
@@ -451,7 +451,7 @@ fn table_of_plans(rt: HostRuntime) -> Result<(), Fail> {
             visits: visits(alloc, rows)?,
             seqs: sequences(alloc, seqs)?,
         };
-        let flat = grammar(alloc, which)?;
+        let flat = flat_of(alloc, which)?;
         assert_eq!(rt; check(alloc, &flat, &plan), answer(fault));
     }
     Ok(())

@@ -1,0 +1,11 @@
+pub mod Bools
+pub mod GoalLemmas
+pub mod CountLemmas
+pub mod StepLemmas
+pub mod ExpressionLemmas
+pub mod ItemLemmas
+pub mod EndLemmas
+pub mod SequenceLemmas
+pub mod RowLemmas
+pub mod VerdictLemmas
+pub mod IndexLemmas

@@ -1,0 +1,3 @@
+pub mod BareLeaf
+pub mod CopiedText
+pub mod TwoVisits

@@ -46,12 +46,14 @@ module _ (ws : List ℕ) (k word : ℕ) (within : k / 128 < length ws) (with : (
       here : j / 128 ≡ k / 128 → IsIn (slice_set ws (k / 128) word) j ↔ ((j ≡ k) ⊎ IsIn ws j)
       here same = (
         λ h. elim ((with (j % 128)).0 (subst (λ w. IsBitSet w (j % 128)) (at_word j same) h)) [ inl e ↦ inl (same_number j k same e) | inr old ↦ inr (subst (λ q. IsBitSet (slice_index_or ws q 0) (j % 128)) (sym same) old) ],
-        λ h. subst (λ w. IsBitSet w (j % 128)) (sym (at_word j same)) ((with (j % 128)).1 (elim h [ inl e ↦ inl (ap (λ n. n % 128) e) | inr old ↦ inr (subst (λ q. IsBitSet (slice_index_or ws q 0) (j % 128)) same old) ])))
+        λ h. subst (λ w. IsBitSet w (j % 128)) (sym (at_word j same)) ((with (j % 128)).1 (elim h [ inl e ↦ inl (ap (λ n. n % 128) e) | inr old ↦ inr (subst (λ q. IsBitSet (slice_index_or ws q 0) (j % 128)) same old) ])),
+      )
 
       there : j / 128 ≢ k / 128 → IsIn (slice_set ws (k / 128) word) j ↔ ((j ≡ k) ⊎ IsIn ws j)
       there other = (
         λ h. inr (subst (λ w. IsBitSet w (j % 128)) (at_other j other) h),
-        λ h. elim h [ inl e ↦ absurd (other (ap (λ n. n / 128) e)) | inr old ↦ subst (λ w. IsBitSet w (j % 128)) (sym (at_other j other)) old ])
+        λ h. elim h [ inl e ↦ absurd (other (ap (λ n. n / 128) e)) | inr old ↦ subst (λ w. IsBitSet w (j % 128)) (sym (at_other j other)) old ],
+      )
 
 no_word : (ws : List ℕ) (i b : ℕ) → length ws ≤ i → IsBitSet (slice_index_or ws i 0) b → ⊥
 no_word ws i b past h = empty-set b (subst (λ w. IsBitSet w b) (get_or_past ws i 0 past) h)
@@ -62,8 +64,9 @@ pub joined_whole : (old new other : List ℕ) (k : ℕ) → length other ≤ k
     → (j : ℕ) → IsIn new j ↔ (IsIn old j ⊎ IsIn other j)
 unfolding IsIn
 joined_whole old new other k all joined j = (
-    λ h. elim ((joined (j / 128) (j % 128)).0 h) [ inl o ↦ inl o | inr p ↦ inr p.1 ],
-    λ h. (joined (j / 128) (j % 128)).1 (elim h [ inl o ↦ inl o | inr p ↦ inr (here (j / 128) (j % 128) p, p) ]))
+  λ h. elim ((joined (j / 128) (j % 128)).0 h) [ inl o ↦ inl o | inr p ↦ inr p.1 ],
+  λ h. (joined (j / 128) (j % 128)).1 (elim h [ inl o ↦ inl o | inr p ↦ inr (here (j / 128) (j % 128) p, p) ]),
+)
   where
     here : (i b : ℕ) → IsBitSet (slice_index_or other i 0) b → i < k
     here i b h = elim (cases_lt i (length other)) [ inl within ↦ omega arith | inr past ↦ absurd (no_word other i b past h) ]

@@ -24,16 +24,19 @@ has_within rows v w h = elim (cases_lt v (length rows)) [ inl within ↦ within 
 -- one more row without edges
 pub none_more : (rows : List Row) (row : Row) → ((v w : ℕ) → Has rows v w → ⊥) → ((w : ℕ) → IsIn row.words w → ⊥) → (v w : ℕ) → Has (rows ++ row ∷ []) v w → ⊥
 none_more rows row none empty v w h = elim (cases_order v (length rows)) [
-    inl same ↦ empty w (subst (λ (r : Row). IsIn r.words w) (ap (λ k. slice_index_or (rows ++ row ∷ []) k no_row) same ∙ get_or-append_seam rows row [] no_row) h)
-    | inr other ↦ elim other [
-      inl within ↦ none v w (subst (λ (r : Row). IsIn r.words w) (get_or_append_left rows (row ∷ []) no_row v within) h)
-      | inr past ↦ no_row_past (rows ++ row ∷ []) v w (let size = length-append rows (row ∷ []) in omega arith) h ] ]
+  | inl same ↦ empty w (subst (λ (r : Row). IsIn r.words w) (ap (λ k. slice_index_or (rows ++ row ∷ []) k no_row) same ∙ get_or-append_seam rows row [] no_row) h)
+  | inr other ↦ elim other [
+    | inl within ↦ none v w (subst (λ (r : Row). IsIn r.words w) (get_or_append_left rows (row ∷ []) no_row v within) h)
+    | inr past ↦ no_row_past (rows ++ row ∷ []) v w (let size = length-append rows (row ∷ []) in omega arith) h
+  ]
+]
 
 -- as far as all rows go
 pub reached_whole : (rows : List Row) (all set : List ℕ) (k : ℕ) → length rows ≤ k → ((w : ℕ) → IsIn all w ↔ (IsIn set w ⊎ ((u : ℕ) × (u < k) × IsIn set u × Has rows u w))) → (w : ℕ) → IsIn all w ↔ IsReached rows set w
 reached_whole rows all set k whole seen w = (
-    λ h. elim ((seen w).0 h) [ inl own ↦ inl own | inr (u, below, among, edge) ↦ inr (u, among, edge) ],
-    λ h. (seen w).1 (elim h [ inl own ↦ inl own | inr (u, among, edge) ↦ inr (u, (let within = has_within rows u w edge in omega arith), among, edge) ]))
+  λ h. elim ((seen w).0 h) [ inl own ↦ inl own | inr (u, below, among, edge) ↦ inr (u, among, edge) ],
+  λ h. (seen w).1 (elim h [ inl own ↦ inl own | inr (u, among, edge) ↦ inr (u, (let within = has_within rows u w edge in omega arith), among, edge) ]),
+)
 
 pub part_in : (set row : List ℕ) (w : ℕ) → IsPart set row → IsIn set w → IsIn row w
 unfolding IsIn IsPart

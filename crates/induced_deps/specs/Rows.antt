@@ -35,9 +35,18 @@ module _ (rows : List Row) where
   abbrev pub IsWith : ℕ → List ℕ → ℕ → ℕ → Type 0
   IsWith from set v w = Has v w ⊎ ((v < length rows) × IsBefore from v × IsIn set w)
 
--- The edges gained those from a vertex to all of a set, and such as follow: from the vertex or before it, to what is in the set
--- or behind it.
-pub record AddsEdges (old new : List Row) (from : ℕ) (set : List ℕ) : Type 0 where
+-- What edges and extra ones say together: they themselves, and paths of them.
+pub data Follows (rows : List Row) (Extra : ℕ → ℕ → Type 0) : ℕ → ℕ → Type 0 where
+  known : {v w : ℕ} → Has rows v w → Follows rows Extra v w
+  extra : {v w : ℕ} → Extra v w → Follows rows Extra v w
+  joined : {u v w : ℕ} → Follows rows Extra u v → Follows rows Extra v w → Follows rows Extra u w
+
+-- The edges gained the extra ones, and nothing that doesn't follow.
+pub record Gains (old new : List Row) (Extra : ℕ → ℕ → Type 0) : Type 0 where
   pub kept : (v w : ℕ) → Has old v w → Has new v w
-  pub added : (w : ℕ) → IsIn set w → Has new from w
-  pub follow : (v w : ℕ) → Has new v w → Has old v w ⊎ (IsBefore old from v × IsReached old set w)
+  pub added : (v w : ℕ) → Extra v w → Has new v w
+  pub follow : (v w : ℕ) → Has new v w → Follows old Extra v w
+
+-- edges from one vertex to all of a set
+abbrev pub FromOne : ℕ → List ℕ → ℕ → ℕ → Type 0
+FromOne from set v w = (v ≡ from) × IsIn set w

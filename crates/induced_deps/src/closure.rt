@@ -1,6 +1,6 @@
 //! A relation between the vertices of a rule that is kept transitive.
 ghost use Rattle.std.specs.Prelude.{◌≡◌, ◌<◌, ◌≤◌, ◌↔◌, ◌⊎◌, ℕ, IsTrue, IfOk, length, vec_len};
-ghost use Rattle.induced_deps.specs.Rows.{IsIn, Has, IsTransitive, IsReached, IsWith, AddsEdges};
+ghost use Rattle.induced_deps.specs.Rows.{IsIn, Has, IsTransitive, IsReached, IsWith, Gains, FromOne};
 
 use crate::row::Row;
 use lido_base::Memory;
@@ -69,7 +69,7 @@ impl Closure {
         requires transitive { IsTransitive self.old.rows.items }
         ensures size { length self.new.rows.items ≡ length self.old.rows.items }
         ensures transitive { IsTransitive self.new.rows.items }
-        ensures edges { AddsEdges self.old.rows.items self.new.rows.items from set.now.words }
+        ensures edges { Gains self.old.rows.items self.new.rows.items (FromOne from set.now.words) }
     {
         if set.is_within(&self.rows[from]) {
             return;

@@ -1,3 +1,4 @@
 pub mod RowLemmas
 pub mod ClosureLemmas
 pub mod VertexLemmas
+pub mod DirectLemmas

@@ -2,9 +2,11 @@
 #![tactic(auto)]
 
 mod closure;
+mod direct;
 mod graph;
 mod row;
 
 pub use closure::Closure;
+pub use direct::{add_comps, attributes_of, vertices_of};
 pub use graph::places_of;
 pub use row::Row;

@@ -20,16 +20,17 @@ contains_at xs k d within = contains-slice_get xs k (slice_index_or xs k d) (sli
 next_take : {X : Type 0} (xs : List X) (k : ℕ) (d : X) → k < length xs → take (k + 1) xs ≡ take k xs ++ slice_index_or xs k d ∷ []
 next_take xs k d within = rw add-one (take-suc xs k d within)
 
-take_less : {X : Type 0} (xs : List X) (k : ℕ) (d x : X) → k < length xs → Contains (take k xs) x → Contains (take (k + 1) xs) x
+pub take_less : {X : Type 0} (xs : List X) (k : ℕ) (d x : X) → k < length xs → Contains (take k xs) x → Contains (take (k + 1) xs) x
 take_less xs k d x within h = subst (λ ys. Contains ys x) (sym (next_take xs k d within)) (Contains-append_left (take k xs) (slice_index_or xs k d ∷ []) x h)
 
-take_here : {X : Type 0} (xs : List X) (k : ℕ) (d : X) → k < length xs → Contains (take (k + 1) xs) (slice_index_or xs k d)
+pub take_here : {X : Type 0} (xs : List X) (k : ℕ) (d : X) → k < length xs → Contains (take (k + 1) xs) (slice_index_or xs k d)
 take_here xs k d within = subst (λ ys. Contains ys (slice_index_or xs k d)) (sym (next_take xs k d within)) (Contains-append_right (take k xs) (slice_index_or xs k d ∷ []) (slice_index_or xs k d) (contains-first (slice_index_or xs k d) []))
 
-take_cases : {X : Type 0} (xs : List X) (k : ℕ) (d x : X) → k < length xs → Contains (take (k + 1) xs) x → Contains (take k xs) x ⊎ (slice_index_or xs k d ≡ x)
+pub take_cases : {X : Type 0} (xs : List X) (k : ℕ) (d x : X) → k < length xs → Contains (take (k + 1) xs) x → Contains (take k xs) x ⊎ (slice_index_or xs k d ≡ x)
 take_cases xs k d x within h = elim (Contains-append_cases (take k xs) (slice_index_or xs k d ∷ []) x (subst (λ ys. Contains ys x) (next_take xs k d within) h)) [
-    inl before ↦ inl before
-    | inr last ↦ elim (contains-cons (slice_index_or xs k d) x [] last) [ inl same ↦ inr same | inr none ↦ absurd (contains-nil x none) ] ]
+  | inl before ↦ inl before
+  | inr last ↦ elim (contains-cons (slice_index_or xs k d) x [] last) [ inl same ↦ inr same | inr none ↦ absurd (contains-nil x none) ]
+]
 
 module _ (places : List Place) where
   -- a vertex of the places is one of so many

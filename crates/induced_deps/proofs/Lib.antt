@@ -2,3 +2,4 @@ pub mod RowLemmas
 pub mod ClosureLemmas
 pub mod VertexLemmas
 pub mod DirectLemmas
+pub mod RoundLemmas

@@ -4,9 +4,11 @@
 mod closure;
 mod direct;
 mod graph;
+mod rounds;
 mod row;
 
 pub use closure::Closure;
 pub use direct::{add_comps, attributes_of, vertices_of};
 pub use graph::places_of;
+pub use rounds::add_induced;
 pub use row::Row;

@@ -34,11 +34,13 @@ room rows = sum_by (λ row. 2 ^ 128 - row) rows
 abbrev pub room_of_all : List (List ℕ) → ℕ
 room_of_all ids = sum_by room ids
 
--- an edge joins two vertices of a place
-pub record IsProjected (places : List Place) (edges : List Row) (x a b : ℕ) : Type 0 where
-  pub place : Place
-  pub among : Contains places place
-  pub symbol : place.symbol.0 ≡ x
+-- an edge joins two vertices of a place, which is one of this symbol
+pub record IsAtSymbol (place : Place) (edges : List Row) (x a b : ℕ) : Type 0 where
+  pub symbol : x ≡ place.symbol.0
   pub first : a < place.width
   pub second : b < place.width
   pub edge : Has edges (place.offset + a) (place.offset + b)
+
+-- an edge joins two vertices of some place
+abbrev pub IsProjected : List Place → List Row → ℕ → ℕ → ℕ → Type 0
+IsProjected places edges x a b = (p : Place) × Contains places p × IsAtSymbol p edges x a b

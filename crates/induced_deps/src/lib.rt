@@ -10,5 +10,5 @@ mod row;
 pub use closure::Closure;
 pub use direct::{add_comps, attributes_of, vertices_of};
 pub use graph::places_of;
-pub use rounds::add_induced;
+pub use rounds::{add_induced, project};
 pub use row::Row;

@@ -1,7 +1,7 @@
 //! How the induced dependencies of symbols and the edges of rules feed each other.
 ghost use Rattle.std.specs.Prelude.{◌≡◌, ◌+◌, ◌<◌, ◌≤◌, ◌↔◌, ◌⊎◌, ℕ, IsTrue, IsFalse, IsBitSet, All, Contains, length, map};
 ghost use Rattle.induced_deps.specs.Rows.{Gains, Has, IsTransitive};
-ghost use Rattle.induced_deps.specs.Rounds.{HasRow, IsBit, OfPlaces, OfRows, room};
+ghost use Rattle.induced_deps.specs.Rounds.{HasRow, IsAtSymbol, IsBit, IsProjected, OfPlaces, OfRows, room, room_of_all, rows_of};
 ghost use Rattle.induced_deps.specs.Vertices.{AreWithin};
 
 use crate::closure::Closure;
@@ -71,6 +71,42 @@ fn project_at(place: Place, closure: &Closure, rows: &mut [u128]) -> bool
     for a in 0..place.width {
         let word = attributes_of(&closure.rows[place.offset + a], place);
         if put(rows, a, word) {
+            grew = true;
+        }
+    }
+    grew
+}
+
+/// Puts the edges between the vertices of a place into the rows of its symbol, among those of all symbols.
+fn project_place(place: Place, closure: &Closure, ids: &mut [List<u128>]) -> bool
+    requires rows { HasRow ids.old place }
+    requires within { place.offset + place.width ≤ length closure.now.rows.items }
+    requires small { length closure.now.rows.items ≤ 1024 }
+    ensures sizes { map length ids.new ≡ map length ids.old }
+    ensures bits { (x a b : ℕ) → IsBit (rows_of ids.new x) a b ↔ (IsBit (rows_of ids.old x) a b ⊎ IsAtSymbol place closure.now.rows.items x a b) }
+    ensures same { IsFalse result → ids.new ≡ ids.old }
+    ensures lighter { room_of_all ids.new ≤ room_of_all ids.old }
+    ensures less { IsTrue result → room_of_all ids.new < room_of_all ids.old }
+{
+    let rows = &mut ids[place.symbol.0 as usize];
+    project_at(place, closure, rows.items.as_mut_slice())
+}
+
+/// Puts the edges between vertices of one place into the rows of the symbols, and tells whether any was new.
+pub fn project(places: &[Place], closure: &Closure, ids: &mut [List<u128>]) -> bool
+    requires rows { All (HasRow ids.old) places.now }
+    requires within { AreWithin places.now (length closure.now.rows.items) }
+    requires small { length closure.now.rows.items ≤ 1024 }
+    ensures sizes { map length ids.new ≡ map length ids.old }
+    ensures sound { (x a b : ℕ) → IsBit (rows_of ids.new x) a b → IsBit (rows_of ids.old x) a b ⊎ IsProjected places.now closure.now.rows.items x a b }
+    ensures same { IsFalse result → ids.new ≡ ids.old }
+    ensures all { IsFalse result → (x a b : ℕ) → IsProjected places.now closure.now.rows.items x a b → IsBit (rows_of ids.new x) a b }
+    ensures lighter { room_of_all ids.new ≤ room_of_all ids.old }
+    ensures less { IsTrue result → room_of_all ids.new < room_of_all ids.old }
+{
+    let mut grew = false;
+    for place in places {
+        if project_place(*place, closure, ids) {
             grew = true;
         }
     }

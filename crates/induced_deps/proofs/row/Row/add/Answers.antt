@@ -3,4 +3,4 @@ use Rattle.induced_deps.proofs.RowLemmas.{added}
 use Rattle.induced_deps.proofs.row.Row.add.Goals as goal
 
 pub returns : goal.returns
-returns c = added c.args.self.now.words c.args.k c.with.result (let size : length c.args.self.now.words ≡ 8 = c.told-self in omega arith) c.with.ensures
+returns c = added c.args.self.now.words c.args.k c.with.result (omega arith) c.with.ensures

@@ -4,8 +4,7 @@ use Rattle.induced_deps.proofs.RowLemmas.{part_whole}
 use Rattle.induced_deps.proofs.row.Row.is_within.Goals as goal
 
 pub returns : goal.returns
-returns c = let size : length c.args.self.now.words ≡ 8 = c.told-self in
-    (λ yes. part_whole c.args.self.now.words c.args.other.now.words c.loop-k.k (omega arith) c.loop-k.invariant, λ part. refl)
+returns c = (λ yes. part_whole c.args.self.now.words c.args.other.now.words c.loop-k.k (omega arith) c.loop-k.invariant, λ part. refl)
 
 pub returns-then-not-is_within : goal.returns-then-not-is_within
 unfolding IsPart

@@ -3,3 +3,4 @@ pub mod ClosureLemmas
 pub mod VertexLemmas
 pub mod DirectLemmas
 pub mod RoundLemmas
+pub mod GraphLemmas

@@ -78,8 +78,9 @@ module _ (initial old new : List (List ℕ)) (places : List Place) (edges : List
 
   pub still_all : (IsFalse grew → (x a b : ℕ) → IsProjected (take k places) edges x a b → IsBit (rows_of old x) a b) → IsFalse both → (x a b : ℕ) → IsProjected (take (k + 1) places) edges x a b → IsBit (rows_of new x) a b
   still_all before none x a b (p, among, at) = elim (take_cases places k d p within among) [
-      inl earlier ↦ (bits x a b).1 (inl (before (neither none).1 x a b (p, earlier, at)))
-      | inr same ↦ (bits x a b).1 (inr (subst (λ (q : Place). IsAtSymbol q edges x a b) (sym same) at)) ]
+    | inl earlier ↦ (bits x a b).1 (inl (before (neither none).1 x a b (p, earlier, at)))
+    | inr same ↦ (bits x a b).1 (inr (subst (λ (q : Place). IsAtSymbol q edges x a b) (sym same) at))
+  ]
 
   pub still_less : room_of_all new ≤ room_of_all old → room_of_all old ≤ room_of_all initial → (IsTrue one → room_of_all new < room_of_all old) → (IsTrue grew → room_of_all old < room_of_all initial) → IsTrue both → room_of_all new < room_of_all initial
   still_less step lighter less before some = elim either [ inl new_one ↦ (let now = less new_one.0 in omega arith) | inr other ↦ (let then = before (sym other.1 ∙ some) in omega arith) ]

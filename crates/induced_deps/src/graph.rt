@@ -35,10 +35,11 @@ fn symbols_of(alloc: Global, rule: &FlatRule) -> Result<Vec<SymId>, Memory>
     Ok(symbols)
 }
 
-/// The occurrences of a rule in order.
-pub fn places_of(alloc: Global, flat: &Flat, rule: &FlatRule) -> Result<Vec<Place>, Memory>
+/// The occurrences of a rule in order, and how many vertices it has.
+pub fn places_of(alloc: Global, flat: &Flat, rule: &FlatRule) -> Result<(Vec<Place>, usize), Memory>
     requires { vertices flat.now.symbols rule.now ≤ 1024 }
-    ensures { IfOk result (λ places. ArePlaces flat.now.symbols rule.now places.items) }
+    ensures places { IfOk result (λ x. ArePlaces flat.now.symbols rule.now x.0.items) }
+    ensures count { IfOk result (λ x. x.1 ≡ vertices flat.now.symbols rule.now) }
 {
     let mut places = Vec::new(alloc);
     let mut offset = 0;
@@ -51,5 +52,5 @@ pub fn places_of(alloc: Global, flat: &Flat, rule: &FlatRule) -> Result<Vec<Plac
         })?;
         offset += width;
     }
-    Ok(places)
+    Ok((places, offset))
 }

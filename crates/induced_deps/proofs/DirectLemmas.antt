@@ -17,7 +17,7 @@ use Rattle.induced_deps.proofs.ClosureLemmas.{gains_none, gains_then}
 pub contains_at : {X : Type 0} (xs : List X) (k : ℕ) (d : X) → k < length xs → Contains xs (slice_index_or xs k d)
 contains_at xs k d within = contains-slice_get xs k (slice_index_or xs k d) (slice_get-get_or xs k d within)
 
-next_take : {X : Type 0} (xs : List X) (k : ℕ) (d : X) → k < length xs → take (k + 1) xs ≡ take k xs ++ slice_index_or xs k d ∷ []
+pub next_take : {X : Type 0} (xs : List X) (k : ℕ) (d : X) → k < length xs → take (k + 1) xs ≡ take k xs ++ slice_index_or xs k d ∷ []
 next_take xs k d within = rw add-one (take-suc xs k d within)
 
 pub take_less : {X : Type 0} (xs : List X) (k : ℕ) (d x : X) → k < length xs → Contains (take k xs) x → Contains (take (k + 1) xs) x

@@ -51,8 +51,9 @@ module _ (symbols : List FlatSymbol) (r : FlatRule) where
   has_goal : (comps : List FlatComp) (c : FlatComp) → Contains comps c → list_any (λ (d : FlatComp). is_same_occ d.goal c.goal) comps ≡ true
   has_goal [] c among = absurd (contains-nil c among)
   has_goal (d ∷ comps) c among = elim (contains-cons d c comps among) [
-      inl same ↦ or_left (is_same_occ d.goal c.goal) (list_any (λ (e : FlatComp). is_same_occ e.goal c.goal) comps) (ap (λ (e : FlatComp). is_same_occ e.goal c.goal) same ∙ same_itself c.goal)
-      | inr later ↦ or_right (is_same_occ d.goal c.goal) (list_any (λ (e : FlatComp). is_same_occ e.goal c.goal) comps) (has_goal comps c later) ]
+    | inl same ↦ or_left (is_same_occ d.goal c.goal) (list_any (λ (e : FlatComp). is_same_occ e.goal c.goal) comps) (ap (λ (e : FlatComp). is_same_occ e.goal c.goal) same ∙ same_itself c.goal)
+    | inr later ↦ or_right (is_same_occ d.goal c.goal) (list_any (λ (e : FlatComp). is_same_occ e.goal c.goal) comps) (has_goal comps c later)
+  ]
 
   some_goal : (k : ℕ) (attr : Option FlatAttr) → is_goal_kind k attr ≡ true → IsTrue (is_some attr)
   some_goal zero None h = h
@@ -64,7 +65,8 @@ module _ (symbols : List FlatSymbol) (r : FlatRule) where
   pub comp_vertices : IsRule symbols r → (c : FlatComp) → Contains r.comps c → IsVertex symbols r c.goal × ((u : Occ) → Contains (dependencies c) u → IsVertex symbols r u)
   comp_vertices rule c among = (
     vertex_of c.goal (some_goal c.goal.occ (attribute_of symbols r c.goal) (sym (rule.goals c.goal) ∙ has_goal r.comps c among)),
-    λ u h. vertex_of u (All-contains (λ o. IsTrue (is_some (attribute_of symbols r o))) (dependencies c) u (All-contains (λ (d : FlatComp). All (λ o. IsTrue (is_some (attribute_of symbols r o))) (dependencies d)) r.comps c rule.dependencies_in_range among) h))
+    λ u h. vertex_of u (All-contains (λ o. IsTrue (is_some (attribute_of symbols r o))) (dependencies c) u (All-contains (λ (d : FlatComp). All (λ o. IsTrue (is_some (attribute_of symbols r o))) (dependencies d)) r.comps c rule.dependencies_in_range among) h),
+  )
 
   above : (k : ℕ) (j : ℕ) → k ≤ j → offset symbols r k ≤ offset symbols r j
   above k j h = sum_takes (width symbols) (symbols_of r) k j h
@@ -84,8 +86,9 @@ module _ (symbols : List FlatSymbol) (r : FlatRule) where
   -- a number is that of one vertex
   pub one_vertex : (u t : Occ) → IsVertex symbols r u → IsVertex symbols r t → number symbols r u ≡ number symbols r t → u ≡ t
   one_vertex u t p q same = elim (cases_order u.occ t.occ) [
-      inl e ↦ (let start = ap (offset symbols r) e in let attr : u.attr.0 ≡ t.attr.0 = omega arith in λ i. record { occ = e i; attr = record { 0 = attr i } })
-      | inr other ↦ elim other [ inl less ↦ (let h = before u t p q less in absurd (omega arith)) | inr more ↦ (let h = before t u q p more in absurd (omega arith)) ] ]
+    | inl e ↦ (let start = ap (offset symbols r) e in let attr : u.attr.0 ≡ t.attr.0 = omega arith in λ i. record { occ = e i; attr = record { 0 = attr i } })
+    | inr other ↦ elim other [ inl less ↦ (let h = before u t p q less in absurd (omega arith)) | inr more ↦ (let h = before t u q p more in absurd (omega arith)) ]
+  ]
 
   module _ (places : List Place) (are : ArePlaces symbols r places) where
     place_here : (k : ℕ) (s : SymId) → symbol_at r k ≡ Some s → (p : Place) × (slice_get places k ≡ Some p) × IsPlace symbols r k p × (p.symbol ≡ s)
@@ -124,7 +127,12 @@ module _ (symbols : List FlatSymbol) (rules : List FlatRule) (r : FlatRule) wher
 
   pub joined_on : (u v w : ℕ) → IsJoined symbols rules r u v → IsJoined symbols rules r v w → IsJoined symbols rules r u w
   joined_on u v w p q = let same = one_vertex symbols r p.last q.first p.is_last q.is_first (sym p.to ∙ q.from) in record {
-    first = p.first; last = q.last; is_first = p.is_first; is_last = q.is_last; from = p.from; to = q.to;
+    first = p.first;
+    last = q.last;
+    is_first = p.is_first;
+    is_last = q.is_last;
+    from = p.from;
+    to = q.to;
     path = joins_on p.first p.last q.last p.path (subst (λ o. Joins rules r o q.last) (sym same) q.path);
   }
 
@@ -132,7 +140,11 @@ module _ (symbols : List FlatSymbol) (rules : List FlatRule) (r : FlatRule) wher
   pub graph_made : (places : List Place) (old new : List Row) → Contains rules r → IsRule symbols r → vertices symbols r ≤ 1024 → ArePlaces symbols r places → ((v w : ℕ) → Has old v w → ⊥) → length new ≡ vertices symbols r → IsTransitive new
       → Gains old new (OfComps places r.comps) → IsGraph symbols rules r places new
   graph_made places old new among rule few are none size transitive gains = record {
-    among = among; few = few; places_are = are; size = size; transitive = transitive;
+    among = among;
+    few = few;
+    places_are = are;
+    size = size;
+    transitive = transitive;
     sound = λ v w h. follows_within old (OfComps places r.comps) (IsJoined symbols rules r) joined_on (λ x y e. absurd (none x y e)) of_comps v w (gains.follow v w h);
     direct = λ u t dp. from_direct u t dp;
   }
@@ -140,9 +152,15 @@ module _ (symbols : List FlatSymbol) (rules : List FlatRule) (r : FlatRule) wher
       of_comps : (v w : ℕ) → OfComps places r.comps v w → IsJoined symbols rules r v w
       of_comps v w (c, in_rule, (u, depends, from, to)) =
           let (goal, before) = comp_vertices symbols r rule c in_rule in
-          record { first = u; last = c.goal; is_first = before u depends; is_last = goal;
-            from = from ∙ number_same symbols r places are u (before u depends); to = to ∙ number_same symbols r places are c.goal goal;
-            path = edge (direct (c, in_rule, depends, refl)) }
+          record {
+            first = u;
+            last = c.goal;
+            is_first = before u depends;
+            is_last = goal;
+            from = from ∙ number_same symbols r places are u (before u depends);
+            to = to ∙ number_same symbols r places are c.goal goal;
+            path = edge (direct (c, in_rule, depends, refl));
+          }
 
       from_direct : (u t : Occ) → DP r u t → Has new (number symbols r u) (number symbols r t)
       from_direct u t (c, in_rule, depends, goal_is) =

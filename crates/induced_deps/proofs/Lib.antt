@@ -4,3 +4,4 @@ pub mod VertexLemmas
 pub mod DirectLemmas
 pub mod RoundLemmas
 pub mod GraphLemmas
+pub mod GrowthLemmas

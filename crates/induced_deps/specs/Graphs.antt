@@ -8,7 +8,7 @@ use Rattle.flat_grammar.specs.declared.flat.FlatRule.{FlatRule}
 use Rattle.flat_grammar.specs.Dependencies.{DP, IDS, Joins}
 use Rattle.induced_deps.specs.declared.row.Row.{Row}
 use Rattle.induced_deps.specs.declared.graph.Place.{Place}
-use Rattle.induced_deps.specs.declared.induce.Graph.{Graph}
+use Rattle.induced_deps.specs.declared.growth.Graph.{Graph}
 use Rattle.induced_deps.specs.Rows.{Has, IsTransitive}
 use Rattle.induced_deps.specs.Vertices.{IsVertex, ArePlaces, number, vertices, width}
 use Rattle.induced_deps.specs.Rounds.{IsBit, rows_of, OfPlaces, IsProjected}
@@ -41,13 +41,17 @@ module _ (symbols : List FlatSymbol) (rules : List FlatRule) where
 
   -- each bit of the rows is an induced dependency
   abbrev pub AreSoundRows : List (List ℕ) → Type 0
-  AreSoundRows ids = (x a b : ℕ) → IsBit (rows_of ids x) a b → IDS rules (record { 0 = x }) (record { 0 = a }) (record { 0 = b }) × (b < width symbols (record { 0 = x }))
+  AreSoundRows ids = (x a b : ℕ) → IsBit (rows_of ids x) a b → IDS rules (record { 0 = x }) (record { 0 = a }) (record { 0 = b }) × (a < width symbols (record { 0 = x })) × (b < width symbols (record { 0 = x }))
 
-  -- a row for each attribute of each symbol
-  abbrev pub HaveRows : List (List ℕ) → Type 0
-  HaveRows ids = map (λ (x : FlatSymbol). length x.attrs) symbols ≡ map (λ (row : List ℕ). length row) ids
+-- a row for each attribute of each symbol
+abbrev pub HaveRows : List FlatSymbol → List (List ℕ) → Type 0
+HaveRows symbols ids = map (λ (x : FlatSymbol). length x.attrs) symbols ≡ map (λ (row : List ℕ). length row) ids
 
 -- The rows and the edges have all of each other's.
 pub record IsSettled (ids : List (List ℕ)) (g : Graph) : Type 0 where
   pub induced : (v w : ℕ) → OfPlaces ids g.places.items v w → Has g.closure.rows.items v w
   pub projected : (x a b : ℕ) → IsProjected g.places.items g.closure.rows.items x a b → IsBit (rows_of ids x) a b
+
+-- each graph is settled
+abbrev pub AreSettled : List (List ℕ) → List Graph → Type 0
+AreSettled ids graphs = (k : ℕ) (g : Graph) → slice_get graphs k ≡ Some g → IsSettled ids g

@@ -6,7 +6,7 @@ use Rattle.flat_grammar.specs.WellFormed.{IsRule}
 use Rattle.induced_deps.specs.declared.graph.Place.{Place}
 use Rattle.induced_deps.specs.Vertices.{AreWithin, HasPlaces, vertices}
 use Rattle.induced_deps.proofs.GraphLemmas.{within_all, comp_placed, graph_made}
-use Rattle.induced_deps.proofs.induce.graph_of.Goals as goal
+use Rattle.induced_deps.proofs.growth.graph_of.Goals as goal
 
 pub add_comps-requires-clause-placed : goal.add_comps-requires-clause-placed
 add_comps-requires-clause-placed c =

@@ -1,0 +1,46 @@
+-- How the induced dependencies of symbols and the edges of rules feed each other.
+use Rattle.std.specs.Prelude.{◌≡◌, ◌+◌, ◌-◌, ◌<◌, ◌≤◌, ◌^◌, ◌⊎◌, ℕ, Bool, IsTrue, IsFalse, List, [], map, length, sum_by, Some, slice_get, slice_index_or, IsBitSet, Contains, All}
+use Rattle.induced_deps.specs.declared.row.Row.{Row}
+use Rattle.induced_deps.specs.declared.graph.Place.{Place}
+use Rattle.induced_deps.specs.Rows.{Has}
+use Rattle.induced_deps.specs.Vertices.{IsAtPlace}
+
+-- a comes before b in these rows of a symbol
+abbrev pub IsBit : List ℕ → ℕ → ℕ → Type 0
+IsBit rows a b = IsBitSet (slice_index_or rows a 0) b
+
+-- the rows of a symbol
+abbrev pub rows_of : List (List ℕ) → ℕ → List ℕ
+rows_of ids x = slice_index_or ids x []
+
+-- edges at a place, by the first rows of its symbol
+abbrev pub OfRows : Place → List ℕ → ℕ → ℕ → ℕ → Type 0
+OfRows p rows count v w = (a : ℕ) × (a < count) × (v ≡ p.offset + a) × IsAtPlace p (slice_index_or rows a 0) w
+
+-- edges at these places, by the rows of their symbols
+abbrev pub OfPlaces : List (List ℕ) → List Place → ℕ → ℕ → Type 0
+OfPlaces ids places v w = (p : Place) × Contains places p × OfRows p (rows_of ids p.symbol.0) p.width v w
+
+-- each place's symbol has a row for each of its attributes
+pub record HasRow (ids : List (List ℕ)) (p : Place) : Type 0 where
+  pub within : p.symbol.0 < length ids
+  pub size : length (rows_of ids p.symbol.0) ≡ p.width
+  pub few : p.width ≤ 128
+
+-- how much the rows can still grow
+abbrev pub room : List ℕ → ℕ
+room rows = sum_by (λ row. 2 ^ 128 - row) rows
+
+abbrev pub room_of_all : List (List ℕ) → ℕ
+room_of_all ids = sum_by room ids
+
+-- an edge joins two vertices of a place, which is one of this symbol
+pub record IsAtSymbol (place : Place) (edges : List Row) (x a b : ℕ) : Type 0 where
+  pub symbol : x ≡ place.symbol.0
+  pub first : a < place.width
+  pub second : b < place.width
+  pub edge : Has edges (place.offset + a) (place.offset + b)
+
+-- an edge joins two vertices of some place
+abbrev pub IsProjected : List Place → List Row → ℕ → ℕ → ℕ → Type 0
+IsProjected places edges x a b = (p : Place) × Contains places p × IsAtSymbol p edges x a b

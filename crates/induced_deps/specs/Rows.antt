@@ -1,0 +1,52 @@
+-- Sets of vertices as rows of words, and relations as lists of rows.
+use Rattle.std.specs.Prelude.{◌≡◌, ◌<◌, ◌⊎◌, ℕ, ◌/◌, ◌%◌, List, [], length, slice_index_or, IsBitSet}
+use Rattle.induced_deps.specs.declared.row.Row.{Row}
+
+-- the set has the number: 128 numbers to a word
+unfoldable pub IsIn : List ℕ → ℕ → Type 0
+IsIn words k = IsBitSet (slice_index_or words (k / 128) 0) (k % 128)
+
+-- the other set has all that the set has, word by word
+unfoldable pub IsPart : List ℕ → List ℕ → Type 0
+IsPart words others = (i b : ℕ) → IsBitSet (slice_index_or words i 0) b → IsBitSet (slice_index_or others i 0) b
+
+-- a row without words
+abbrev pub no_row : Row
+no_row = record { words = [] }
+
+module _ (rows : List Row) where
+  -- an edge leads from v to w: row v has w
+  abbrev pub Has : ℕ → ℕ → Type 0
+  Has v w = IsIn (slice_index_or rows v no_row).words w
+
+  -- a path of two edges is an edge
+  abbrev pub IsTransitive : Type 0
+  IsTransitive = (u v w : ℕ) → Has u v → Has v w → Has u w
+
+  -- w is in the set, or behind one of it
+  abbrev pub IsReached : List ℕ → ℕ → Type 0
+  IsReached set w = IsIn set w ⊎ ((v : ℕ) × IsIn set v × Has v w)
+
+  -- the vertex is this one, or comes before it
+  abbrev pub IsBefore : ℕ → ℕ → Type 0
+  IsBefore from v = (v ≡ from) ⊎ Has v from
+
+  -- an edge, or one from what comes before the vertex to what is in the set
+  abbrev pub IsWith : ℕ → List ℕ → ℕ → ℕ → Type 0
+  IsWith from set v w = Has v w ⊎ ((v < length rows) × IsBefore from v × IsIn set w)
+
+-- What edges and extra ones say together: they themselves, and paths of them.
+pub data Follows (rows : List Row) (Extra : ℕ → ℕ → Type 0) : ℕ → ℕ → Type 0 where
+  known : {v w : ℕ} → Has rows v w → Follows rows Extra v w
+  extra : {v w : ℕ} → Extra v w → Follows rows Extra v w
+  joined : {u v w : ℕ} → Follows rows Extra u v → Follows rows Extra v w → Follows rows Extra u w
+
+-- The edges gained the extra ones, and nothing that doesn't follow.
+pub record Gains (old new : List Row) (Extra : ℕ → ℕ → Type 0) : Type 0 where
+  pub kept : (v w : ℕ) → Has old v w → Has new v w
+  pub added : (v w : ℕ) → Extra v w → Has new v w
+  pub follow : (v w : ℕ) → Has new v w → Follows old Extra v w
+
+-- edges from one vertex to all of a set
+abbrev pub FromOne : ℕ → List ℕ → ℕ → ℕ → Type 0
+FromOne from set v w = (v ≡ from) × IsIn set w

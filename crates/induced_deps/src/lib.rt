@@ -1,0 +1,11 @@
+//! The induced dependencies of a flat grammar (Kastens 1980).
+#![tactic(auto)]
+
+mod closure;
+mod direct;
+mod graph;
+mod growth;
+mod rounds;
+mod row;
+
+pub use growth::induce;

@@ -1,0 +1,114 @@
+//! How the induced dependencies of symbols and the edges of rules feed each other.
+ghost use Rattle.std.specs.Prelude.{◌≡◌, ◌+◌, ◌<◌, ◌≤◌, ◌↔◌, ◌⊎◌, ℕ, IsTrue, IsFalse, IsBitSet, All, Contains, length, map};
+ghost use Rattle.induced_deps.specs.Rows.{Gains, Has, IsTransitive};
+ghost use Rattle.induced_deps.specs.Rounds.{HasRow, IsAtSymbol, IsBit, IsProjected, OfPlaces, OfRows, room, room_of_all, rows_of};
+ghost use Rattle.induced_deps.specs.Vertices.{AreWithin};
+
+use crate::closure::Closure;
+use crate::direct::{attributes_of, vertices_of};
+use crate::graph::Place;
+use flat_grammar::bits;
+use lido_base::List;
+
+/// Adds edges between the vertices of a place, by the rows of its symbol.
+fn add_rows(place: Place, rows: &[u128], closure: &mut Closure)
+    requires size { length rows.now ≡ place.width }
+    requires within { place.offset + place.width ≤ length closure.old.rows.items }
+    requires few { length closure.old.rows.items ≤ 1024 }
+    requires transitive { IsTransitive closure.old.rows.items }
+    ensures size { length closure.new.rows.items ≡ length closure.old.rows.items }
+    ensures transitive { IsTransitive closure.new.rows.items }
+    ensures edges { Gains closure.old.rows.items closure.new.rows.items (OfRows place rows.now place.width) }
+{
+    for (a, row) in rows.iter().enumerate() {
+        closure.add(place.offset + a, &vertices_of(*row, place));
+    }
+}
+
+/// Adds edges between the vertices of each place, by the rows of its symbol.
+pub fn add_induced(places: &[Place], ids: &[List<u128>], closure: &mut Closure)
+    requires rows { All (HasRow ids.now) places.now }
+    requires within { AreWithin places.now (length closure.old.rows.items) }
+    requires few { length closure.old.rows.items ≤ 1024 }
+    requires transitive { IsTransitive closure.old.rows.items }
+    ensures size { length closure.new.rows.items ≡ length closure.old.rows.items }
+    ensures transitive { IsTransitive closure.new.rows.items }
+    ensures edges { Gains closure.old.rows.items closure.new.rows.items (OfPlaces ids.now places.now) }
+{
+    for place in places {
+        add_rows(*place, ids[place.symbol.0 as usize].as_slice(), closure);
+    }
+}
+
+/// Puts the attributes of the word into a row, and tells whether any was new.
+fn put(rows: &mut [u128], a: usize, word: u128) -> bool
+    requires { a < length rows.old }
+    ensures size { length rows.new ≡ length rows.old }
+    ensures bits { (k b : ℕ) → IsBit rows.new k b ↔ (IsBit rows.old k b ⊎ ((k ≡ a) × IsBitSet word b)) }
+    ensures same { IsFalse result → rows.new ≡ rows.old }
+    ensures less { IsTrue result → room rows.new < room rows.old }
+{
+    if bits::is_within(word, rows[a]) {
+        return false;
+    }
+    rows[a] = bits::union(rows[a], word);
+    true
+}
+
+/// Puts the edges between the vertices of a place into the rows of its symbol, and tells whether any was new.
+fn project_at(place: Place, closure: &Closure, rows: &mut [u128]) -> bool
+    requires size { length rows.old ≡ place.width }
+    requires few { place.width ≤ 128 }
+    requires within { place.offset + place.width ≤ length closure.now.rows.items }
+    requires small { length closure.now.rows.items ≤ 1024 }
+    ensures size { length rows.new ≡ length rows.old }
+    ensures bits { (a b : ℕ) → IsBit rows.new a b ↔ (IsBit rows.old a b ⊎ ((a < place.width) × (b < place.width) × Has closure.now.rows.items (place.offset + a) (place.offset + b))) }
+    ensures same { IsFalse result → rows.new ≡ rows.old }
+    ensures lighter { room rows.new ≤ room rows.old }
+    ensures less { IsTrue result → room rows.new < room rows.old }
+{
+    let mut grew = false;
+    for a in 0..place.width {
+        let word = attributes_of(&closure.rows[place.offset + a], place);
+        if put(rows, a, word) {
+            grew = true;
+        }
+    }
+    grew
+}
+
+/// Puts the edges between the vertices of a place into the rows of its symbol, among those of all symbols.
+fn project_place(place: Place, closure: &Closure, ids: &mut [List<u128>]) -> bool
+    requires rows { HasRow ids.old place }
+    requires within { place.offset + place.width ≤ length closure.now.rows.items }
+    requires small { length closure.now.rows.items ≤ 1024 }
+    ensures sizes { map length ids.new ≡ map length ids.old }
+    ensures bits { (x a b : ℕ) → IsBit (rows_of ids.new x) a b ↔ (IsBit (rows_of ids.old x) a b ⊎ IsAtSymbol place closure.now.rows.items x a b) }
+    ensures same { IsFalse result → ids.new ≡ ids.old }
+    ensures lighter { room_of_all ids.new ≤ room_of_all ids.old }
+    ensures less { IsTrue result → room_of_all ids.new < room_of_all ids.old }
+{
+    let rows = &mut ids[place.symbol.0 as usize];
+    project_at(place, closure, rows.items.as_mut_slice())
+}
+
+/// Puts the edges between vertices of one place into the rows of the symbols, and tells whether any was new.
+pub fn project(places: &[Place], closure: &Closure, ids: &mut [List<u128>]) -> bool
+    requires rows { All (HasRow ids.old) places.now }
+    requires within { AreWithin places.now (length closure.now.rows.items) }
+    requires small { length closure.now.rows.items ≤ 1024 }
+    ensures sizes { map length ids.new ≡ map length ids.old }
+    ensures sound { (x a b : ℕ) → IsBit (rows_of ids.new x) a b → IsBit (rows_of ids.old x) a b ⊎ IsProjected places.now closure.now.rows.items x a b }
+    ensures same { IsFalse result → ids.new ≡ ids.old }
+    ensures all { IsFalse result → (x a b : ℕ) → IsProjected places.now closure.now.rows.items x a b → IsBit (rows_of ids.new x) a b }
+    ensures lighter { room_of_all ids.new ≤ room_of_all ids.old }
+    ensures less { IsTrue result → room_of_all ids.new < room_of_all ids.old }
+{
+    let mut grew = false;
+    for place in places {
+        if project_place(*place, closure, ids) {
+            grew = true;
+        }
+    }
+    grew
+}

@@ -1,4 +1,3 @@
-pub mod BitsLemmas
 pub mod PeelingLemmas
 pub mod ClassesLemmas
 pub mod SymbolsLemmas

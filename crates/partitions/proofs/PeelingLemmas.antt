@@ -16,7 +16,7 @@ use Rattle.flat_grammar.specs.Partition.{IsPeeled, HasKind, IsClosedSet, kind_of
 use Rattle.flat_grammar.proofs.Lists.{contains-nil, contains-cons, contains-first, contains-later, held}
 use Rattle.partitions.specs.declared.peeling.Levels.{Levels}
 use Rattle.partitions.specs.Peeling.{AreRows, ArePeeled, AreLevels, AreAllLevels, IsLast, IsKept}
-use Rattle.partitions.proofs.BitsLemmas.{is-set, empty-set, within-le}
+use Rattle.flat_grammar.proofs.BitsLemmas.{is-set, empty-set, within-le}
 
 -- A set of the numbers below i with a property, found one by one.
 module _ (P : ℕ → Type 0) where

@@ -6,8 +6,8 @@ ghost use Rattle.flat_grammar.specs.declared.plan.VisitClass.{VisitClass as Visi
 ghost use Rattle.flat_grammar.specs.Partition.{IsClass};
 ghost use Rattle.partitions.specs.Peeling.{AreLevels, AreAllLevels, IsLast, AreLaterRows, IsPast, IsPastAmong};
 
-use crate::bits::{has, union};
 use crate::peeling::{Levels, attributes};
+use flat_grammar::bits::{has, union};
 use flat_grammar::{Flat, VisitClass};
 use lido_base::{AttrId, List, SymId};
 use std::alloc::{AllocError, Global};

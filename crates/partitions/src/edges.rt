@@ -8,10 +8,10 @@ ghost use Rattle.partitions.specs.Symbols.{rows_at};
 ghost use Rattle.partitions.specs.Graph.{IsEdge};
 ghost use Rattle.partitions.specs.RuleGraph.{IsComing, IsNumberOf, IsComingAt, IsDirectAmong};
 
-use crate::bits::has;
 use crate::direct::DirectEdge;
 use crate::symbols::rows_of;
 use crate::vertices::{Vertices, symbol_of};
+use flat_grammar::bits::has;
 use flat_grammar::{FlatRule, Occ};
 use lido_base::List;
 use std::alloc::{AllocError, Global};

@@ -1,7 +1,6 @@
 //! The visits of each symbol, or a cycle of a rule.
 #![tactic(auto)]
 
-mod bits;
 mod classes;
 mod cycle;
 mod direct;

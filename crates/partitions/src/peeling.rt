@@ -6,7 +6,7 @@ ghost use Rattle.flat_grammar.specs.Dependencies.{IDS};
 ghost use Rattle.flat_grammar.specs.Partition.{HasKind, IsClosedSet, kind_of_class, PeelsAll};
 ghost use Rattle.partitions.specs.Peeling.{IsKept, AreRows, ArePeeled, AreLevels, AreAllLevels, IsLast};
 
-use crate::bits::{has, is_within, union, with};
+use flat_grammar::bits::{has, is_within, union, with};
 use flat_grammar::{Flat, FlatAttr};
 use lido_base::{Kind, SymId};
 use std::alloc::{AllocError, Global};

@@ -10,12 +10,12 @@ ghost use Rattle.partitions.specs.Symbols.{AreAllLaterRows};
 ghost use Rattle.partitions.specs.Graph.{IsGraphCycle};
 ghost use Rattle.partitions.specs.RuleGraph.{AreNumbered, AreExtended, IsExtended, IsRanked, direct_edges_of, IsInducedAt, AreStepsOf, IsStepOf};
 
-use crate::bits::has;
 use crate::direct::{DirectEdge, direct_edges};
 use crate::edges::{add_direct, symbol_preds};
 use crate::search::find_cycle;
 use crate::symbols::rows_of;
 use crate::vertices::{Vertices, symbol_of, vertices_of};
+use flat_grammar::bits::has;
 use flat_grammar::{CycleStep, Deps, Flat, FlatRule, Label, Occ};
 use lido_base::List;
 use std::alloc::{AllocError, Global};

@@ -1,4 +1,4 @@
--- The size of an expression goes down its arguments.
+-- Whether what a stack of expressions reads is at hand.
 use Rattle.std.specs.Prelude.{List, ◌∷◌, ℕ, ◌+◌, ◌<◌, ◌≡◌, refl, sum_by, suc, flat_map, ◌++◌, [], Bool, true, false, ◌&&◌}
 use Rattle.std.specs.List.{list_all}
 use Rattle.std.proofs.Common.{ap, sym, ◌∙◌, arith}
@@ -15,28 +15,8 @@ use Rattle.flat_grammar.specs.declared.flat.FlatExpr as whole
 use Rattle.flat_grammar.specs.declared.flat.FlatExpr.TheBlock.{hidden-the_row-FlatExpr-0}
 use Rattle.flat_grammar.specs.declared.flat.Occ.{Occ}
 use Rattle.flat_grammar.specs.Rules.{reads}
-use Rattle.sequence_checker.specs.Expressions.{own_reads, weight, weight_of_all}
+use Rattle.flat_grammar.specs.Expressions.{own_reads}
 use Rattle.sequence_checker.proofs.Bools.{never}
-
-weight-items : (m : Count) (k : whole.Row_of-FlatExpr m) → weight_of_all k ≡ sum_by weight (whole.items-the_row-FlatExpr m k)
-weight-items m whole.end_of-FlatExpr = refl
-weight-items m (whole.more_of-FlatExpr {n = k} e es) = ap (λ n. weight e + n) (weight-items k es) ∙ sym (sum_by-cons weight e (whole.items-the_row-FlatExpr k es))
-
-weight-row : (args : List FlatExpr) → weight_of_all (hidden-the_row-FlatExpr-0 args) ≡ sum_by weight args
-weight-row args = weight-items _ (hidden-the_row-FlatExpr-0 args) ∙ ap (sum_by weight) (whole.items_hidden-the_row-FlatExpr-0 args)
-
-pub weight-Apply : (comp : ℕ) (op : Op) (args : List FlatExpr) → weight (e.Apply comp op args) ≡ suc (sum_by weight args)
-weight-Apply comp op args = ap suc (weight-row args)
-
-pub weight-If : (args : List FlatExpr) → weight (e.If args) ≡ suc (sum_by weight args)
-weight-If args = ap suc (weight-row args)
-
-pub weight-Order : (args : List FlatExpr) → weight (e.Order args) ≡ suc (sum_by weight args)
-weight-Order args = ap suc (weight-row args)
-
--- the reads of a call, an IF or an ORDER
-pub argument-reads : (value : FlatExpr) (args given : List FlatExpr) → reads value ≡ flat_map reads args → own_reads value ≡ [] → given ≡ args → reads value ≡ own_reads value ++ flat_map reads given
-argument-reads value args given r own g = r ∙ (ap (flat_map reads) (sym g) ∙ ap (λ l. l ++ flat_map reads given) (sym own))
 
 -- A stack of expressions: all its reads are at hand.
 module _ (hand : Occ → Bool) where
@@ -68,7 +48,3 @@ module _ (hand : Occ → Bool) where
   -- the last one's own read is not at hand
   pub all-stop : (xs args : List FlatExpr) (x : FlatExpr) → reads x ≡ own_reads x ++ flat_map reads args → list_all hand (own_reads x) ≡ false → all_of (xs ++ x ∷ []) ≡ false
   all-stop xs args x r h = parted xs args x r ∙ and-stop (all_of xs) (list_all hand (own_reads x)) (all_of args) h
-
--- the arguments weigh less
-pub weight-step : (xs args : List FlatExpr) (x : FlatExpr) → weight x ≡ suc (sum_by weight args) → sum_by weight (xs ++ args) < sum_by weight (xs ++ x ∷ [])
-weight-step xs args x w = let a = sum_by-append weight xs args in let b = sum_by_push weight xs x in omega arith

@@ -2,7 +2,6 @@ pub mod Sets
 pub mod Rows
 pub mod Classes
 pub mod Steps
-pub mod Expressions
 pub mod Faults
 pub mod Goals
 pub mod Verdicts

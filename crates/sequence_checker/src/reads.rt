@@ -2,36 +2,13 @@
 ghost use Rattle.std.specs.Prelude.{◌≡◌, ◌++◌, suc, IfOk, OnOk, flat_map, map, sum_by};
 ghost use Rattle.std.specs.List.{list_all};
 ghost use Rattle.flat_grammar.specs.Rules.{dependencies, reads};
-ghost use Rattle.sequence_checker.specs.Expressions.{own_reads, weight};
+ghost use Rattle.flat_grammar.specs.Expressions.{own_reads, weight};
 ghost use Rattle.sequence_checker.specs.Steps.{is_at_hand};
 
 use crate::progress::Progress;
-use flat_grammar::{FlatComp, FlatExpr, Occ};
+use flat_grammar::{FlatComp, FlatExpr, Occ, arguments, push_all};
 use lido_base::Memory;
 use std::alloc::Global;
-
-/// The arguments of a call, an IF or an ORDER.
-fn arguments(value: &FlatExpr) -> &[FlatExpr]
-    ensures reads { reads value.now ≡ own_reads value.now ++ flat_map reads result.now }
-    ensures lighter { weight value.now ≡ suc (sum_by weight result.now) }
-{
-    match value {
-        FlatExpr::Value(_) | FlatExpr::Terminal(_) | FlatExpr::Read(_) => &[],
-        FlatExpr::Apply { args, .. } => args.as_slice(),
-        FlatExpr::If(args) => args.as_slice(),
-        FlatExpr::Order(args) => args.as_slice(),
-    }
-}
-
-/// Puts the arguments behind the expressions that are still to be looked at.
-fn push_all<'a>(rest: &mut Vec<&'a FlatExpr>, args: &'a [FlatExpr]) -> Result<(), Memory>
-    ensures { OnOk result (map (λ value. value.now) rest.new.items ≡ map (λ value. value.now) rest.old.items ++ args.now) }
-{
-    for argument in args {
-        rest.push(argument)?;
-    }
-    Ok(())
-}
 
 impl Progress {
     /// Whether all these are at hand.

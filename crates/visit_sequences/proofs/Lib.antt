@@ -6,7 +6,6 @@ pub mod Soundness
 pub mod RowLemmas
 pub mod PlanLemmas
 pub mod BitsLemmas
-pub mod ExpressionLemmas
 pub mod GoalLemmas
 pub mod StepLemmas
 pub mod TakeLemmas

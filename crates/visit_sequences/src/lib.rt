@@ -7,7 +7,6 @@ mod goals;
 pub mod laws;
 mod plan;
 mod progress;
-mod reads;
 mod rows;
 
 pub use plan::sequences;

@@ -1,5 +1,5 @@
 use Rattle.std.proofs.Common.{arith}
-use Rattle.partitions.proofs.BitsLemmas.{within-le}
+use Rattle.flat_grammar.proofs.BitsLemmas.{within-le}
 use Rattle.partitions.proofs.PeelingLemmas.{attributes-few, kept-greatest}
 use Rattle.partitions.proofs.peeling.closed_set.Goals as goal
 

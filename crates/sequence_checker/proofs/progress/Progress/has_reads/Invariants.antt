@@ -1,7 +1,7 @@
 use Rattle.std.proofs.Common.{◌≡◌, map, flat_map, sum_by}
 use Rattle.std.specs.List.{list_all}
 use Rattle.flat_grammar.specs.Rules.{reads}
-use Rattle.sequence_checker.specs.Expressions.{weight}
+use Rattle.flat_grammar.specs.Expressions.{weight}
 use Rattle.sequence_checker.specs.Steps.{is_at_hand}
 use Rattle.sequence_checker.proofs.progress.Progress.has_reads.Given as goal
 

@@ -23,7 +23,7 @@ use Rattle.flat_grammar.proofs.Lists.{contains-nil}
 use Rattle.visit_sequences.specs.declared.goals.Goal.{Goal}
 use Rattle.visit_sequences.specs.declared.progress.Progress.{Progress}
 use Rattle.visit_sequences.specs.Steps.{row_of, PassesIn, HasBit, HasBitsOf, Adds, Evaluates, Passes, Follows}
-use Rattle.visit_sequences.proofs.BitsLemmas.{empty-set}
+use Rattle.flat_grammar.proofs.BitsLemmas.{empty-set}
 use Rattle.visit_sequences.proofs.Classes.{inherited-kind, synthesized-kind, some-is}
 use Rattle.visit_sequences.proofs.Occurrences.{symbol-there, goal-attribute}
 use Rattle.visit_sequences.proofs.ProgressLemmas.{row-at}

@@ -8,10 +8,10 @@ ghost use Rattle.flat_grammar.specs.declared.plan.PlanItem.TheVariants.{Visit};
 ghost use Rattle.visit_sequences.specs.declared.goals.Goal.{Goal as Waiting};
 ghost use Rattle.visit_sequences.specs.Steps.{AreGoals, Follows, HasBit, HasLeft, IsLeastChild, IsNextAt, IsNoChild, IsOfUseFrom, IsOpen, IsReadyAt, Owes, OwesClass, row_of};
 
-use crate::bits::is_within;
 use crate::goals::Goal;
 use crate::progress::Progress;
 use crate::rows::row_at;
+use flat_grammar::bits::is_within;
 use flat_grammar::{Flat, FlatRule, Occ, Parts, PlanItem, VisitClass};
 use lido_base::{List, Memory};
 

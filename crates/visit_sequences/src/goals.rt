@@ -6,8 +6,9 @@ ghost use Rattle.flat_grammar.specs.Partition.{AreAllVisits};
 ghost use Rattle.flat_grammar.specs.WellFormed.{attribute_of};
 ghost use Rattle.visit_sequences.specs.Steps.{IsGoal, AreGoals, IsBefore, StandsBefore};
 
-use crate::bits::{has, members, union, with};
+use crate::bits::{members, with};
 use crate::rows::{row_at, symbol_at};
+use flat_grammar::bits::{has, union};
 use flat_grammar::{Deps, Flat, FlatComp, FlatRule, Occ, Parts, VisitClass, dependencies_of};
 use lido_base::{AttrId, Memory};
 use std::alloc::Global;

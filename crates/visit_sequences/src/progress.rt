@@ -5,8 +5,9 @@ ghost use Rattle.flat_grammar.specs.Construction.{IsChosen};
 ghost use Rattle.flat_grammar.specs.Partition.{AreAllVisits};
 ghost use Rattle.visit_sequences.specs.Steps.{Adds, Evaluates, Follows, HasBit, HasBitsOf, Passes, row_of};
 
-use crate::bits::{has, members, union, with};
+use crate::bits::{members, with};
 use crate::rows::row_at;
+use flat_grammar::bits::{has, union};
 use flat_grammar::{Flat, FlatRule, Occ, Parts, PlanItem, VisitClass};
 use lido_base::{AttrId, List, Memory};
 use std::alloc::{AllocError, Global};

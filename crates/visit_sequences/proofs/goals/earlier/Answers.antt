@@ -22,7 +22,7 @@ returns-then-has-2 c =
     let one = subst (λ l. HasMembers row c.args.b l c.members-inherited.result) c.as_slice.ensures c.members-inherited.ensures in
     let two = subst (λ l. HasMembers row c.args.b l c.members-synthesized.result) c.as_slice-in-loop-class.ensures c.members-synthesized.ensures in
     synthesized-return row c.args.b k class c.loop-class.set c.members-inherited.result c.union-both.result c.members-synthesized.result c.requires at c.loop-class.invariant.lacks c.loop-class.invariant.set one
-    (λ bit. true≢false (sym (c.has.ensures.1 bit) ∙ c.if-has.false)) c.union-both.ensures two (c.has-in-loop-class.ensures.0 c.if-has-2.true)
+    (λ bit. true≢false (sym (c.has.ensures.1 bit) ∙ c.if-has.false)) c.union-both.ensures.members two (c.has-in-loop-class.ensures.0 c.if-has-2.true)
 
 pub loop-class-preserved : goal.loop-class-preserved
 loop-class-preserved c =
@@ -33,7 +33,7 @@ loop-class-preserved c =
     let one = subst (λ l. HasMembers row c.args.b l c.members-inherited.result) c.as_slice.ensures c.members-inherited.ensures in
     let two = subst (λ l. HasMembers row c.args.b l c.members-synthesized.result) c.as_slice-in-loop-class.ensures c.members-synthesized.ensures in
     record {
-      set = next-passed row c.args.b k class c.loop-class.set c.members-inherited.result c.union-both.result c.members-synthesized.result c.union-set.result at c.loop-class.invariant.set one c.union-both.ensures two c.union-set.ensures;
+      set = next-passed row c.args.b k class c.loop-class.set c.members-inherited.result c.union-both.result c.members-synthesized.result c.union-set.result at c.loop-class.invariant.set one c.union-both.ensures.members two c.union-set.ensures.members;
       lacks = next-lacks row c.args.b k class c.members-inherited.result c.members-synthesized.result c.requires at c.loop-class.invariant.lacks one
           (λ bit. true≢false (sym (c.has.ensures.1 bit) ∙ c.if-has.false)) two (λ bit. true≢false (sym (c.has-in-loop-class.ensures.1 bit) ∙ c.if-has-2.false));
     }

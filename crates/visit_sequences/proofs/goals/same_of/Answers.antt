@@ -20,7 +20,7 @@ returns-in-Some-get c =
     let has = subst (λ l. (a : AttrId) → IsBitSet c.earlier-before.result a.0 ↔ ((a.0 < 128) × StandsBefore l a c.args.goal.attr)) row c.earlier-before.ensures in
     let induced = subst (λ (l : List ℕ). (a : AttrId) → IsBitSet c.induced.result a.0 ↔ ((a.0 < 128) × (row : ℕ) × (slice_get l a.0 ≡ Some row) × IsBitSet row c.args.goal.attr.0)) c.as_slice-in-Some-get.ensures c.induced.ensures in
     before-is flat.symbols flat.rules flat.shapes flat.root flat.well_formed c.args.deps.now.ids c.requires.rows c.args.parts.now.visits c.requires.visits c.args.rule.now c.args.goal x of_x
-    c.earlier-before.result c.induced.result c.union.result c.requires.attribute at e has induced c.union.ensures
+    c.earlier-before.result c.induced.result c.union.result c.requires.attribute at e has induced c.union.ensures.members
 
 pub returns-in-None : goal.returns-in-None
 returns-in-None c =

@@ -48,10 +48,6 @@ within-union a b e j h = subst (λ n. IsBitSet n j) e (in-left a b j h)
 pub within-le : (a b : ℕ) → ((j : ℕ) → IsBitSet a j → IsBitSet b j) → a ≤ b
 within-le a b within = subst (λ n. a ≤ n) (union-within a b within) (le_or_l a b)
 
--- sets with the same members are one number
-pub same-sets : (a b : ℕ) → ((j : ℕ) → IsBitSet a j → IsBitSet b j) → ((j : ℕ) → IsBitSet b j → IsBitSet a j) → a ≡ b
-same-sets a b to back = let p = within-le a b to in let q = within-le b a back in omega arith
-
 pub empty-set : (j : ℕ) → IsBitSet 0 j → ⊥
 empty-set j h = let one = one-of 0 j h in absurd (omega arith)
 

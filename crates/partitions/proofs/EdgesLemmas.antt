@@ -125,6 +125,3 @@ module _ (starts : List ℕ) (edges : List DirectEdge) (old : List (List ℕ)) w
     (λ edge. elim ((are u v).0 edge) [ inl first ↦ inl first | inr h ↦ inr (h.0, h.1, h.3, h.4, h.5) ]),
     (λ either. elim either [ inl first ↦ (are u v).1 (inl first) | inr h ↦ (are u v).1 (inr (let l = below-length edges h.0 h.1 h.2 in (h.0, h.1, (omega arith), h.2, h.3, h.4))) ]),
   )
-
-  pub added-none : AreAdded 0 old
-  added-none u v = ((λ edge. inl edge), (λ either. elim either [ inl edge ↦ edge | inr h ↦ absurd (let l = h.2 in omega arith) ]))

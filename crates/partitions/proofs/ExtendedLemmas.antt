@@ -161,9 +161,6 @@ module _ (symbols : List FlatSymbol) (rules : List FlatRule) (ids later : List (
         let b = occ-below symbols r rules o got.0 got.1 (numbered.vertices.to v o at).1 in
         let f = attributes-few symbols got.0 few_attributes in omega arith
 
-    pub small-starts : (k start : ℕ) → slice_get starts k ≡ Some start → start ≤ 1024
-    small-starts k start at = let b = numbered.vertices.bounded k start at in let f = numbered.few in omega arith
-
     -- an attribute occurrence of the rule is the vertex with its number
     pub number-some : (o : Occ) → IsSome (attribute_of symbols r o) → (n : ℕ) × IsNumberOf starts o n × (slice_get occs n ≡ Some o)
     number-some o some = let l = occ-within o some in let h = numbered.vertices.from o (inl (omega arith)) some in (h.0 + o.attr.0, (h.0, h.1, refl), h.2)

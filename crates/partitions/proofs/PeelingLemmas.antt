@@ -24,9 +24,6 @@ module _ (P : ℕ → Type 0) where
     pub to : (j : ℕ) → IsBitSet set j → (j < i) × P j
     pub from : (j : ℕ) → j < i → P j → IsBitSet set j
 
-  pub found-none : IsFound 0 0
-  found-none = record { to = λ j h. absurd (empty-set j h); from = λ j h p. absurd (omega arith) }
-
   pub found-one : (i set new : ℕ) → IsFound i set → ((j : ℕ) → IsBitSet new j ↔ ((j ≡ i) ⊎ IsBitSet set j)) → P i → IsFound (i + 1) new
   found-one i set new f e p = record {
     to = λ j h. elim ((e j).0 h) [ inl same ↦ ((omega arith), subst P (sym same) p) | inr old ↦ let b = (f.to j old).0 in ((omega arith), (f.to j old).1) ];

@@ -27,9 +27,6 @@ use Rattle.partitions.proofs.ExtendedLemmas.{induced-some}
 use Rattle.partitions.proofs.StepsLemmas.{ranked-acyclic}
 
 module _ (symbols : List FlatSymbol) (rules : List FlatRule) (each_rule : All (IsRule symbols) rules) (x : SymId) (has_last : HasLast symbols rules x) where
-  limit : ℕ
-  limit = has_last.0
-
   -- an attribute whose successors are all in some class is so too
   after-successors : (n : ℕ) → IsLast symbols rules x n → (a : AttrId) → IsSome (attribute_at symbols x a) → ((b : AttrId) → IDS rules x a b → IsPeeled symbols rules x n b) → IsPeeled symbols rules x n a
   after-successors n last a some successors = go (attribute_at symbols x a) refl some

@@ -101,9 +101,6 @@ module _ (symbols : List FlatSymbol) (rules : List FlatRule) (r : FlatRule) (occ
         subst (λ (z : Occ). IsExtended symbols rules r z p) (held (sym h.2 ∙ at_u)) (subst (λ (z : Occ). IsExtended symbols rules r h.0 z) (held (sym h.3 ∙ at_v)) h.4)
 
     module _ (steps : List CycleStep) (count : length steps ≡ length cycle) (each : (j : ℕ) (s : CycleStep) → slice_get steps j ≡ Some s → IsStepOf symbols rules r occs cycle j s) where
-      from-is : (j u : ℕ) (s : CycleStep) → slice_get steps j ≡ Some s → slice_get cycle j ≡ Some u → slice_get occs u ≡ Some s.from
-      from-is j u s at at_j = let h = each j s at in ap (λ i. slice_get occs i) (held (sym at_j ∙ h.5)) ∙ h.7
-
       edge-is : (j k : ℕ) (a b : CycleStep) → IsNextPlace (length cycle) j k → slice_get steps j ≡ Some a → slice_get steps k ≡ Some b → EDP symbols rules r a.from b.from a.label
       edge-is j k a b next at at_k =
           let h = each j a at in

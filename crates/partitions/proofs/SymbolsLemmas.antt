@@ -1,6 +1,6 @@
 -- The visits of the symbols, one after the other.
-use Rattle.std.specs.Prelude.{true, false, IsBitSet, slice_get, ◌*◌, map, ◌↔◌}
-use Rattle.std.proofs.Common.{◌≡◌, ℕ, zero, suc, ◌+◌, ◌<◌, ◌≤◌, inl, inr, List, [], ◌∷◌, ◌++◌, length, length-append, Option, Some, None, refl, sym, ap, subst, ◌∙◌, arith, reverse}
+use Rattle.std.specs.Prelude.{IsBitSet, slice_get, map, ◌↔◌}
+use Rattle.std.proofs.Common.{◌≡◌, ℕ, zero, suc, ◌+◌, ◌<◌, ◌≤◌, inl, inr, List, [], ◌∷◌, ◌++◌, length, length-append, Option, Some, None, refl, sym, ap, subst, ◌∙◌, arith}
 use Rattle.std.proofs.lemmas.Bool.{cases_lt}
 use Rattle.std.proofs.lemmas.Option.{none-some, slice_get_past}
 use Rattle.lido_base.specs.declared.ids.SymId.{SymId}
@@ -10,10 +10,9 @@ use Rattle.flat_grammar.specs.declared.flat.FlatAttr.{FlatAttr}
 use Rattle.flat_grammar.specs.declared.flat.FlatRule.{FlatRule}
 use Rattle.flat_grammar.specs.declared.plan.VisitClass.{VisitClass}
 use Rattle.flat_grammar.specs.Rules.{attrs_of}
-use Rattle.flat_grammar.specs.WellFormed.{is_nonterminal}
 use Rattle.flat_grammar.specs.Dependencies.{IDS, AreInducedRows}
-use Rattle.flat_grammar.specs.Partition.{IsPeeled, PeelsAll, AreAllVisits, IsClass}
-use Rattle.partitions.specs.Peeling.{AreRows, AreLaterRows, IsLast}
+use Rattle.flat_grammar.specs.Partition.{AreAllVisits}
+use Rattle.partitions.specs.Peeling.{AreRows, AreLaterRows}
 use Rattle.partitions.specs.Symbols.{rows_at, IsAllPeeled, AreItsVisits, HasLast, AreAllLaterRows}
 use Rattle.partitions.proofs.PeelingLemmas.{pushed-get, get-below, peeled-attribute, attribute-below}
 
@@ -36,23 +35,6 @@ module _ (symbols : List FlatSymbol) (rules : List FlatRule) where
       go None e a b row at = absurd (none-some row at)
       go (Some of_x) e a b row at = bits x a b of_x row e at
 
-  -- the visits of a nonterminal whose attributes are all in some class
-  pub its-visits : (x : SymId) (n : ℕ) (row : List VisitClass) → is_nonterminal symbols x ≡ true → IsLast symbols rules x (2 * n) → ((k : ℕ) → PeelsAll symbols rules x (2 * k) → 0 < k → n ≤ k) → 0 < n → length row ≡ n
-      → ((k : ℕ) (visit : VisitClass) → slice_get (reverse row) k ≡ Some visit → IsClass symbols rules x (2 * k) visit.synthesized × IsClass symbols rules x (2 * k + 1) visit.inherited)
-      → IsAllPeeled symbols rules x → AreItsVisits symbols rules x row
-  its-visits x n row nonterminal last fewest one count classes all = (
-    (λ yes. record {
-      classes = classes;
-      all = λ a some. let p = all a some in subst (λ (m : ℕ). IsPeeled symbols rules x (2 * m) a) (sym count) (last p.0 a p.1);
-      fewest = λ k peels positive. let h = fewest k peels positive in omega arith;
-      one = omega arith;
-    }),
-    (λ other. absurd (cc)),
-  )
-
-  pub no-visits : (x : SymId) (row : List VisitClass) → is_nonterminal symbols x ≡ false → row ≡ [] → AreItsVisits symbols rules x row
-  no-visits x row terminal none = ((λ yes. absurd (cc)), λ other. none)
-
   -- the visits and the rows of the first symbols
   pub record ArePartsBelow (i : ℕ) (visits : List (List VisitClass)) (later : List (List ℕ)) : Type 0 where
     pub visits_count : length visits ≡ i
@@ -60,15 +42,6 @@ module _ (symbols : List FlatSymbol) (rules : List FlatRule) where
     pub each_visits : (x : SymId) (row : List VisitClass) → slice_get visits x.0 ≡ Some row → IsAllPeeled symbols rules x → AreItsVisits symbols rules x row
     pub each_later : (x : SymId) (rows : List ℕ) → slice_get later x.0 ≡ Some rows → AreLaterRows symbols rules x rows
     pub each_last : (x : SymId) → x.0 < i → HasLast symbols rules x
-
-  pub parts-none : ArePartsBelow 0 [] []
-  parts-none = record {
-    visits_count = refl;
-    later_count = refl;
-    each_visits = λ x row at. absurd (none-some row at);
-    each_later = λ x rows at. absurd (none-some rows at);
-    each_last = λ x h. absurd (omega arith);
-  }
 
   same-symbol : (x y : SymId) → x.0 ≡ y.0 → x ≡ y
   same-symbol x y e = λ i. record { 0 = e i }

@@ -2,7 +2,6 @@
 use Rattle.std.specs.Prelude.{slice_get, IsSome}
 use Rattle.std.proofs.Common.{◌≡◌, ℕ, ◌+◌, ◌<◌, ◌≤◌, ◌⊎◌, inl, inr, List, [], ◌∷◌, ◌++◌, length, length-append, Option, Some, None, refl, sym, ap, subst, ◌∙◌, arith}
 use Rattle.std.proofs.lemmas.Bool.{cases_lt}
-use Rattle.std.proofs.lemmas.Option.{none-some}
 use Rattle.lido_base.specs.declared.ids.SymId.{SymId}
 use Rattle.flat_grammar.specs.declared.flat.Occ.{Occ}
 use Rattle.flat_grammar.specs.declared.flat.FlatSymbol.{FlatSymbol}
@@ -24,15 +23,6 @@ module _ (symbols : List FlatSymbol) (r : FlatRule) where
 
   pub occ-below : (rules : List FlatRule) (o : Occ) (x : SymId) → symbol_at r o.occ ≡ Some x → IsSome (attribute_of symbols r o) → o.attr.0 < length (attrs_of symbols x)
   occ-below rules o x at some = attribute-below symbols rules x o.attr (subst (λ (s : Option SymId). IsSome (elim s [ None ↦ None | Some s ↦ attribute_at symbols s o.attr ])) at some)
-
-  pub none-before : AreVerticesBefore symbols r 0 0 [] []
-  none-before = record {
-    to = λ v o at. absurd (none-some o at);
-    from = λ o before some. elim before [ inl l ↦ absurd (omega arith) | inr e ↦ absurd (let l = e.1 in omega arith) ];
-    ascending = λ v w o p le at next. absurd (none-some o at);
-    apart = λ v w o a b. absurd (none-some o a);
-    bounded = λ i start at. absurd (none-some start at);
-  }
 
   pub vertex-push : (rules : List FlatRule) (k a start : ℕ) (occs new : List Occ) (starts : List ℕ) (x : SymId) (p : Occ) → AreVerticesBefore symbols r k a occs starts → symbol_at r k ≡ Some x → a < length (attrs_of symbols x)
       → slice_get starts k ≡ Some start → length occs ≡ start + a → p.occ ≡ k → p.attr.0 ≡ a → new ≡ occs ++ (p ∷ []) → AreVerticesBefore symbols r k (a + 1) new starts

@@ -13,3 +13,6 @@ mod symbols;
 mod vertices;
 
 pub use parts::{PartFault, partition};
+
+#[cfg(test)]
+mod tests;

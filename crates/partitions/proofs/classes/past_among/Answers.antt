@@ -12,7 +12,7 @@ pub loop-levels-preserved : goal.loop-levels-preserved
 loop-levels-preserved c = λ b.
     let i = c.loop-levels.levels-index in
     let all = c.args.all.now in
-    let at : slice_get all i ≡ Some (get_or all i _) = slice_get-get_or all i _ c.loop-levels-test.true in (
+    let at : slice_get all i ≡ Some (get_or all i (record { later = 0; synthesized = 0; both = 0 })) = slice_get-get_or all i (record { later = 0; synthesized = 0; both = 0 }) c.loop-levels-test.true in (
       (λ bit. elim ((c.union-row.ensures.members b).0 bit) [
         | inl old ↦ (let h = (c.loop-levels.invariant b).0 old in let l = h.2 in (h.0, h.1, (omega arith), h.3, h.4))
         | inr new ↦ (i, get_or all i _, (omega arith), at, (c.past.ensures b).0 new)

@@ -1,0 +1,7 @@
+//! The reader of specifications: tokens to the syntax tree, or the place of the first token that fits none.
+#![tactic(auto)]
+
+mod fault;
+pub mod names;
+
+pub use fault::ReadSpecFault;

@@ -1,1 +1,3 @@
 pub mod PhrasesLemmas
+pub mod PartsLemmas
+pub mod DeclarationsLemmas

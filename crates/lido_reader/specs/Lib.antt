@@ -1,1 +1,5 @@
 pub mod Phrases
+pub mod Counting
+pub mod Places
+pub mod Expressions
+pub mod Computations

@@ -16,9 +16,9 @@ use Rattle.lido_lexer.specs.declared.token.TokenKind.{TokenKind}
 use Rattle.lido_syntax.specs.declared.spec.Decl.{Decl}
 use Rattle.lido_syntax.specs.declared.spec.Typed1.{Typed1}
 use Rattle.lido_reader.specs.Phrases.{Done, Then, AreMore, end, is_comma, is_comma_kind, IsName, IsType, type_word, type_of}
-use Rattle.lido_reader.specs.Items.{AreNames, IsTerminalType, terminal_type, is_terminal_type, IsSide, unsaid, synt, inh, is_side, is_side_kind, IsDecl, decl, declared, typed, IsFurtherDecl, further, AreDecls, decls, continues_decls, Repeats, IsAttr, attr, IsTerm, term, IsChain, chain}
-use Rattle.lido_reader.proofs.PhrasesLemmas.{Completable, sees_completable, name_completable, type_completable, then_completable, Stops, type_finds}
-use Rattle.lido_reader.proofs.PartsLemmas.{finish, then_finish, both, done, at_done, begin, Starts, Steps, seen_stops, repeat_finish, or_left, or_right}
+use Rattle.lido_reader.specs.Items.{AreNames, IsTerminalType, terminal_type, is_terminal_type, IsSide, unsaid, synt, inh, is_side, is_side_kind, IsDecl, typed, IsFurtherDecl, AreDecls, continues_decls, IsAttr, IsTerm, IsChain}
+use Rattle.lido_reader.proofs.PhrasesLemmas.{Completable, sees_completable, name_completable, type_completable, then_completable, Stops, type_finds, leads_self}
+use Rattle.lido_reader.proofs.PartsLemmas.{finish, then_finish, both, done, at_done, begin, Starts, Steps, seen_stops, repeat_finish, or_left, or_right, seen_goes}
 
 -- ---- a terminal's type
 
@@ -80,17 +80,8 @@ side_unsaid ts no_synt no_inh = empty_finds IsSide is_side ts None (λ vs. unsai
 
 -- ---- declarations
 
-abbrev pub DeclParts : List Token → List Decl → List Token → Type 0
-DeclParts = Then AreNames (λ names. Then (Signs sign.Colon) (λ _. Then IsType (λ type. Then IsSide (λ k. Done (declared names type k)))))
-
-decl_to : (us vs : List Token) (x : List Decl) → DeclParts us x vs → IsDecl us x vs
-decl_to us vs x p = at_done (IsDecl us) p.rest.rest.rest.rest (decl p.first p.rest.first p.rest.rest.first p.rest.rest.rest.first)
-
-decl_from : (us vs : List Token) (x : List Decl) → IsDecl us x vs → DeclParts us x vs
-decl_from us vs x (decl p q r s) = both _ _ p (both _ _ q (both _ _ r (both _ _ s done)))
-
-pub decl_begins : (ts : List Token) → Leads DeclParts is_side ts IsDecl is_side ts
-decl_begins ts = begin decl_to decl_from
+pub decl_begins : (ts : List Token) → Leads IsDecl is_side ts IsDecl is_side ts
+decl_begins ts = leads_self IsDecl is_side ts
 
 pub colon_completable : Completable (Signs sign.Colon)
 colon_completable = sees_completable (kind.Sign sign.Colon)
@@ -109,24 +100,14 @@ pub names_completable : Completable AreNames
 names_completable = then_completable IsName (λ name. AreMore IsName (name ∷ [])) name_completable (λ name. ([], name ∷ [], (λ vs. end)))
 
 pub decl_completable : Completable IsDecl
-decl_completable = let r : Completable DeclParts = then_finish names_completable (λ names. then_finish colon_completable (λ colon. then_finish type_completable (λ type. then_finish side_completable (λ k. finish)))) in
-    let (more, x, whole) = r in (more, x, (λ vs. decl_to (more ++ vs) vs x (whole vs)))
+decl_completable = then_finish names_completable (λ names. then_finish colon_completable (λ colon. then_finish type_completable (λ type. then_finish side_completable (λ k. finish))))
 
 -- a further declaration
-abbrev pub FurtherParts : List Decl → List Token → List Decl → List Token → Type 0
-FurtherParts found = Then (Signs sign.Comma) (λ _. Then IsDecl (λ more. Done (found ++ more)))
-
-further_to : (found : List Decl) (us vs : List Token) (x : List Decl) → FurtherParts found us x vs → IsFurtherDecl found us x vs
-further_to found us vs x p = at_done (IsFurtherDecl found us) p.rest.rest (further p.first p.rest.first)
-
-further_from : (found : List Decl) (us vs : List Token) (x : List Decl) → IsFurtherDecl found us x vs → FurtherParts found us x vs
-further_from found us vs x (further p q) = both _ _ p (both _ _ q done)
-
-pub further_begins : (found : List Decl) (ts : List Token) → Leads (FurtherParts found) is_side ts (IsFurtherDecl found) is_side ts
-further_begins found ts = begin (further_to found) (further_from found)
+pub further_begins : (found : List Decl) (ts : List Token) → Leads (IsFurtherDecl found) is_side ts (IsFurtherDecl found) is_side ts
+further_begins found ts = leads_self (IsFurtherDecl found) is_side ts
 
 further_starting : Starts is_comma IsFurtherDecl
-further_starting y z ts us (further (token e) q) = rw e refl
+further_starting y z ts us p = seen_goes (kind.Sign sign.Comma) is_comma_kind refl ts p.between p.value p.first
 
 comma_apart : (k : TokenKind) → IsTrue (is_comma_kind k) → IsTrue (is_side_kind k) → ⊥
 comma_apart (kind.Sign sign.Comma) h g = cc
@@ -146,21 +127,11 @@ comma_only (kind.Sign sign.Comma) h = refl
 comma_only (kind.Sign _) h = cc
 comma_only _ h = cc
 
-abbrev pub DeclsParts : List Token → List Decl → List Token → Type 0
-DeclsParts = Then IsDecl (Repeats IsFurtherDecl)
-
-decls_to : (us vs : List Token) (x : List Decl) → DeclsParts us x vs → AreDecls us x vs
-decls_to us vs x p = decls p.first p.rest
-
-decls_from : (us vs : List Token) (x : List Decl) → AreDecls us x vs → DeclsParts us x vs
-decls_from us vs x (decls p q) = both _ _ p q
-
-pub decls_begin : (ts : List Token) → Leads DeclsParts continues_decls ts AreDecls continues_decls ts
-decls_begin ts = begin decls_to decls_from
+pub decls_begin : (ts : List Token) → Leads AreDecls continues_decls ts AreDecls continues_decls ts
+decls_begin ts = leads_self AreDecls continues_decls ts
 
 pub decls_completable : Completable AreDecls
-decls_completable = let r : Completable DeclsParts = then_finish decl_completable (repeat_finish decl_steps) in
-    let (more, x, whole) = r in (more, x, (λ vs. decls_to (more ++ vs) vs x (whole vs)))
+decls_completable = then_finish decl_completable (repeat_finish decl_steps)
 
 -- ---- ATTR, TERM, CHAIN
 
@@ -168,38 +139,11 @@ decls_completable = let r : Completable DeclsParts = then_finish decl_completabl
 pub semicolon_stops : {X Y : Type 0} (Rest : Y → Token → List Token → X → List Token → Type 0) (c : Token → Bool) → Stops continues_decls c (λ all. Then (Signs sign.Semicolon) (Rest all))
 semicolon_stops Rest c = seen_stops (kind.Sign sign.Semicolon) (λ k. is_side_kind k || is_comma_kind k) refl Rest c
 
-abbrev pub AttrParts : List Token → List Decl → List Token → Type 0
-AttrParts = Then (Keys key.Attr) (λ _. Then AreDecls (λ all. Then (Signs sign.Semicolon) (λ _. Done all)))
+pub attr_begins : (ts : List Token) → Leads IsAttr nothing ts IsAttr nothing ts
+attr_begins ts = leads_self IsAttr nothing ts
 
-attr_to : (us vs : List Token) (x : List Decl) → AttrParts us x vs → IsAttr us x vs
-attr_to us vs x p = at_done (IsAttr us) p.rest.rest.rest (attr p.first p.rest.first p.rest.rest.first)
+pub term_begins : (ts : List Token) → Leads IsTerm nothing ts IsTerm nothing ts
+term_begins ts = leads_self IsTerm nothing ts
 
-attr_from : (us vs : List Token) (x : List Decl) → IsAttr us x vs → AttrParts us x vs
-attr_from us vs x (attr p q r) = both _ _ p (both _ _ q (both _ _ r done))
-
-pub attr_begins : (ts : List Token) → Leads AttrParts nothing ts IsAttr nothing ts
-attr_begins ts = begin attr_to attr_from
-
-abbrev pub TermParts : List Token → List Typed1 → List Token → Type 0
-TermParts = Then (Keys key.Term) (λ _. Then AreNames (λ names. Then (Signs sign.Colon) (λ _. Then IsTerminalType (λ type. Then (Signs sign.Semicolon) (λ _. Done (typed names type))))))
-
-term_to : (us vs : List Token) (x : List Typed1) → TermParts us x vs → IsTerm us x vs
-term_to us vs x p = at_done (IsTerm us) p.rest.rest.rest.rest.rest (term p.first p.rest.first p.rest.rest.first p.rest.rest.rest.first p.rest.rest.rest.rest.first)
-
-term_from : (us vs : List Token) (x : List Typed1) → IsTerm us x vs → TermParts us x vs
-term_from us vs x (term p q r s t) = both _ _ p (both _ _ q (both _ _ r (both _ _ s (both _ _ t done))))
-
-pub term_begins : (ts : List Token) → Leads TermParts nothing ts IsTerm nothing ts
-term_begins ts = begin term_to term_from
-
-abbrev pub ChainParts : List Token → List Typed1 → List Token → Type 0
-ChainParts = Then (Keys key.Chain) (λ _. Then AreNames (λ names. Then (Signs sign.Colon) (λ _. Then IsType (λ type. Then (Signs sign.Semicolon) (λ _. Done (typed names type))))))
-
-chain_to : (us vs : List Token) (x : List Typed1) → ChainParts us x vs → IsChain us x vs
-chain_to us vs x p = at_done (IsChain us) p.rest.rest.rest.rest.rest (chain p.first p.rest.first p.rest.rest.first p.rest.rest.rest.first p.rest.rest.rest.rest.first)
-
-chain_from : (us vs : List Token) (x : List Typed1) → IsChain us x vs → ChainParts us x vs
-chain_from us vs x (chain p q r s t) = both _ _ p (both _ _ q (both _ _ r (both _ _ s (both _ _ t done))))
-
-pub chain_begins : (ts : List Token) → Leads ChainParts nothing ts IsChain nothing ts
-chain_begins ts = begin chain_to chain_from
+pub chain_begins : (ts : List Token) → Leads IsChain nothing ts IsChain nothing ts
+chain_begins ts = leads_self IsChain nothing ts

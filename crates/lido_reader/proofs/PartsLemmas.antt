@@ -8,8 +8,9 @@ use Rattle.lido_lexer.specs.declared.token.Token.{Token}
 use Rattle.lido_lexer.specs.declared.token.TokenKind.{TokenKind}
 use Rattle.lido_reader.specs.declared.fault.ReadSpecFault.{ReadSpecFault}
 use Rattle.lido_reader.specs.Phrases.{Done, Then, RefusesAt}
+use Rattle.lido_reader.specs.Places.{Optional, absent, present}
 use Rattle.lido_reader.specs.Items.{Repeats, end, next}
-use Rattle.lido_reader.proofs.PhrasesLemmas.{Completable, done_completable, then_completable, Stops, never, past, fails, ends, chosen, refused_by}
+use Rattle.lido_reader.proofs.PhrasesLemmas.{IsSaidByHead, IsNeverEmpty, Completable, done_completable, then_completable, Stops, never, past, fails, ends, chosen, refused_by}
 
 -- ---- parts that can be completed, in short
 
@@ -157,6 +158,9 @@ module _ {Y : Type 0} {Step : Y → List Token → Y → List Token → Type 0} 
 pub done_stops : {A X : Type 0} (c : Token → Bool) (f : A → X) → Stops c c (λ a. Done (f a))
 done_stops c f a us vs x d h = subst (GoesOn c) (sym d.behind) h
 
+pub done_stops_wide : {A X : Type 0} (goes c : Token → Bool) → ((t : Token) → IsTrue (goes t) → IsTrue (c t)) → (f : A → X) → Stops goes c (λ a. Done (f a))
+done_stops_wide goes c wider f a us vs x d h = subst (GoesOn c) (sym d.behind) (goes_wider goes c wider us h)
+
 -- ---- what begins with one given token
 
 -- a token that some tokens are not
@@ -187,3 +191,36 @@ seen_goes k goes holds ts us t (token e) = ap goes e ∙ holds
 pub unseen_stops : (k : TokenKind) (goes : TokenKind → Bool) → ((other : TokenKind) → IsTrue (goes other) → other ≡ k) → (ts : List Token) → ((t : Token) (us : List Token) → Sees k ts t us → ⊥) → GoesOn (λ t. goes t.what) ts → ⊥
 unseen_stops k goes only [] none h = h
 unseen_stops k goes only (t ∷ ts) none h = none t ts (token (only t.what h))
+
+-- ---- what the first token decides
+
+-- tokens of the same first one begin with no other
+pub seen_apart : (k j : TokenKind) → (k ≡ j → ⊥) → (ts us vs ws : List Token) (t u : Token) → Sees k ts t us → SameHead ts vs → Sees j vs u ws → ⊥
+seen_apart k j differ ts us vs ws t u (token e) s (token d) = differ (sym e ∙ ap (λ z. z.what) s ∙ d)
+
+-- where the token does not come next, neither does it in tokens of the same first one
+pub unseen_head : {X : Type 0} (First : List Token → X → List Token → Type 0) → IsSaidByHead First → IsNeverEmpty First → (ts vs : List Token) → ((x : X) (us : List Token) → First ts x us → ⊥)
+    → SameHead ts vs → (y : X) (ws : List Token) → First vs y ws → ⊥
+unseen_head First said some [] [] none s y ws n = some ws y n
+unseen_head First said some [] (v ∷ vs) none s y ws n = s
+unseen_head First said some (t ∷ ts) [] none s y ws n = s
+unseen_head First said some (t ∷ ts) (v ∷ vs) none s y ws n = none y ts (subst (λ z. First (z ∷ ts) y ts) (sym s) ((said v vs ws y n).1 ts))
+
+-- A phrase that may be left out, and is there where the next token says so.
+module _ {A X : Type 0} (First : List Token → A → List Token → Type 0) (Rest : A → List Token → X → List Token → Type 0) (x : X) (c : Token → Bool) where
+  present_from : (ts us vs : List Token) (y : X) → GoesOn c ts → SameHead ts us → Optional (Then First Rest) x us y vs → Then First Rest us y vs ⊎ GoesOn c vs
+  present_from ts us vs y g s (absent e) = inr (goes_back c ts us s g)
+  present_from ts us vs y g s (present p) = inl p
+
+  pub present_leads : (ts : List Token) → GoesOn c ts → Leads (Then First Rest) c ts (Optional (Then First Rest) x) c ts
+  present_leads ts g = chosen (Then First Rest) (Optional (Then First Rest) x) c ts (λ us vs y p. present p) (λ us vs y s n. present_from ts us vs y g s n)
+
+  pub absent_finds : IsSaidByHead First → IsNeverEmpty First → (ts : List Token) → ((a : A) (us : List Token) → First ts a us → ⊥) → Finds (Optional (Then First Rest) x) c ts x ts
+  absent_finds said some ts none = empty_finds (Optional (Then First Rest) x) c ts x (λ vs. absent refl) (λ vs s y ws n. go vs s y ws n)
+    where
+      go : (vs : List Token) → SameHead ts vs → (y : X) (ws : List Token) → Optional (Then First Rest) x vs y ws → ((y ≡ x) × (ws ≡ vs)) ⊎ GoesOn c ws
+      go vs s y ws (absent e) = inl (e, refl)
+      go vs s y ws (present p) = absurd (unseen_head First said some ts vs none s p.value p.between p.first)
+
+pub optional_completable : {X : Type 0} {N : List Token → X → List Token → Type 0} {x : X} → Completable (Optional N x)
+optional_completable {X} {N} {x} = ([], x, (λ vs. absent refl))

@@ -181,7 +181,7 @@ sees_finds k c ts us t n = one_finds (Sees k) c (sees_said k) (sees_some k) (see
 pub sees_refuses : (k : TokenKind) (c : Token → Bool) (ts : List Token) → ((t : Token) (us : List Token) → Sees k ts t us → ⊥) → Refuses (Sees k) c ts ts
 sees_refuses k c ts none = one_refuses (Sees k) c (sees_said k) (sees_some k) (sees_completable k) ts none
 
-name_said : IsSaidByHead IsName
+pub name_said : IsSaidByHead IsName
 name_said t us vs x (word e) = (refl, (λ ws. word e))
 
 pub name_some : IsNeverEmpty IsName

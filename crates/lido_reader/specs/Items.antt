@@ -1,6 +1,6 @@
 -- The grammar of a specification's items, of a profile of Eli's LIDO. Each phrase says which tokens it begins with, its value, and
 -- the tokens that are left.
-use Rattle.std.specs.Prelude.{ℕ, suc, Bool, true, false, IsTrue, ◌||◌, Option, Some, None, List, [], ◌∷◌, ◌++◌, length, map, codes}
+use Rattle.std.specs.Prelude.{ℕ, ◌+◌, Bool, true, false, IsTrue, ◌||◌, Option, Some, None, List, [], ◌∷◌, ◌++◌, length, map, codes}
 use Rattle.std.specs.Fmt.{decimal}
 use Rattle.std.specs.List.{position_or_len}
 use Rattle.std.specs.Str.{bytes_eq}
@@ -24,7 +24,8 @@ use Rattle.lido_syntax.specs.declared.spec.Element.TheVariants as element
 use Rattle.lido_syntax.specs.declared.spec.RuleItem.{RuleItem}
 use Rattle.lido_syntax.specs.declared.spec.SymbolItem.{SymbolItem}
 use Rattle.lido_syntax.specs.declared.spec.Spec.{Spec}
-use Rattle.lido_reader.specs.Phrases.{IsName, IsType, AreMore, AreSeparated, is_comma_kind}
+use Rattle.lido_reader.specs.Places.{Optional}
+use Rattle.lido_reader.specs.Phrases.{Done, Then, IsName, IsType, AreMore, AreSeparated, is_comma_kind}
 
 -- ---- steps one behind the other
 
@@ -65,31 +66,28 @@ abbrev pub typed : List Name → ValueType → List Typed1
 typed names type = map (λ (name : Name). record { name = name; ty = type }) names
 
 -- name {"," name} ":" type ["SYNT" | "INH"]
-pub data IsDecl : List Token → List Decl → List Token → Type 0 where
-  decl : {ts us vs ws xs : List Token} {names : List Name} {colon : Token} {type : ValueType} {k : Option Kind}
-      → AreNames ts names us → Signs sign.Colon us colon vs → IsType vs type ws → IsSide ws k xs → IsDecl ts (declared names type k) xs
+abbrev pub IsDecl : List Token → List Decl → List Token → Type 0
+IsDecl = Then AreNames (λ names. Then (Signs sign.Colon) (λ colon. Then IsType (λ type. Then IsSide (λ k. Done (declared names type k)))))
 
 -- "," decl
-pub data IsFurtherDecl : List Decl → List Token → List Decl → List Token → Type 0 where
-  further : {ts us vs : List Token} {found more : List Decl} {comma : Token} → Signs sign.Comma ts comma us → IsDecl us more vs → IsFurtherDecl found ts (found ++ more) vs
+abbrev pub IsFurtherDecl : List Decl → List Token → List Decl → List Token → Type 0
+IsFurtherDecl found = Then (Signs sign.Comma) (λ comma. Then IsDecl (λ more. Done (found ++ more)))
 
 -- decl {"," decl}
-pub data AreDecls : List Token → List Decl → List Token → Type 0 where
-  decls : {ts us vs : List Token} {first all : List Decl} → IsDecl ts first us → Repeats IsFurtherDecl first us all vs → AreDecls ts all vs
+abbrev pub AreDecls : List Token → List Decl → List Token → Type 0
+AreDecls = Then IsDecl (Repeats IsFurtherDecl)
 
 -- "ATTR" decls ";"
-pub data IsAttr : List Token → List Decl → List Token → Type 0 where
-  attr : {ts us vs ws : List Token} {word semicolon : Token} {all : List Decl} → Keys key.Attr ts word us → AreDecls us all vs → Signs sign.Semicolon vs semicolon ws → IsAttr ts all ws
+abbrev pub IsAttr : List Token → List Decl → List Token → Type 0
+IsAttr = Then (Keys key.Attr) (λ word. Then AreDecls (λ all. Then (Signs sign.Semicolon) (λ semicolon. Done all)))
 
 -- "TERM" name {"," name} ":" type ";", and the type is int or string
-pub data IsTerm : List Token → List Typed1 → List Token → Type 0 where
-  term : {ts us vs ws xs ys : List Token} {word colon semicolon : Token} {names : List Name} {type : ValueType}
-      → Keys key.Term ts word us → AreNames us names vs → Signs sign.Colon vs colon ws → IsTerminalType ws type xs → Signs sign.Semicolon xs semicolon ys → IsTerm ts (typed names type) ys
+abbrev pub IsTerm : List Token → List Typed1 → List Token → Type 0
+IsTerm = Then (Keys key.Term) (λ word. Then AreNames (λ names. Then (Signs sign.Colon) (λ colon. Then IsTerminalType (λ type. Then (Signs sign.Semicolon) (λ semicolon. Done (typed names type))))))
 
 -- "CHAIN" name {"," name} ":" type ";"
-pub data IsChain : List Token → List Typed1 → List Token → Type 0 where
-  chain : {ts us vs ws xs ys : List Token} {word colon semicolon : Token} {names : List Name} {type : ValueType}
-      → Keys key.Chain ts word us → AreNames us names vs → Signs sign.Colon vs colon ws → IsType ws type xs → Signs sign.Semicolon xs semicolon ys → IsChain ts (typed names type) ys
+abbrev pub IsChain : List Token → List Typed1 → List Token → Type 0
+IsChain = Then (Keys key.Chain) (λ word. Then AreNames (λ names. Then (Signs sign.Colon) (λ colon. Then IsType (λ type. Then (Signs sign.Semicolon) (λ semicolon. Done (typed names type))))))
 
 -- what may continue a declaration, and a list of them
 abbrev pub is_side_kind : TokenKind → Bool
@@ -111,18 +109,40 @@ pub data IsElement : List Token → Element → List Token → Type 0 where
   literal : {ts us : List Token} {quoted : Token} {id : StrId} → Sees (kind.Literal id) ts quoted us → IsElement ts (element.Literal id) us
 
 -- one more element
-pub data IsFurtherElement : List Element → List Token → List Element → List Token → Type 0 where
-  further : {ts us : List Token} {found : List Element} {e : Element} → IsElement ts e us → IsFurtherElement found ts (found ++ e ∷ []) us
+abbrev pub IsFurtherElement : List Element → List Token → List Element → List Token → Type 0
+IsFurtherElement found = Then IsElement (λ e. Done (found ++ e ∷ []))
 
 -- "|" name
-pub data IsFurtherListed : List Element → List Token → List Element → List Token → Type 0 where
-  further : {ts us vs : List Token} {found : List Element} {bar : Token} {name : Name} → Signs sign.Bar ts bar us → IsName us name vs → IsFurtherListed found ts (found ++ element.Symbol name ∷ []) vs
+abbrev pub IsFurtherListed : List Element → List Token → List Element → List Token → Type 0
+IsFurtherListed found = Then (Signs sign.Bar) (λ bar. Then IsName (λ name. Done (found ++ element.Symbol name ∷ [])))
+
+-- name {"|" name}
+abbrev pub AreChoices : List Token → List Element → List Token → Type 0
+AreChoices = Then IsName (λ name. Repeats IsFurtherListed (element.Symbol name ∷ []))
 
 -- "::=" {element} | "LISTOF" name {"|" name}: whether it is a list, and its elements
 pub data IsRight : List Token → Bool × List Element → List Token → Type 0 where
-  production : {ts us vs : List Token} {produces : Token} {all : List Element} → Signs sign.Produces ts produces us → Repeats IsFurtherElement [] us all vs → IsRight ts (false, all) vs
-  listof : {ts us vs ws : List Token} {word : Token} {name : Name} {all : List Element}
-      → Keys key.Listof ts word us → IsName us name vs → Repeats IsFurtherListed (element.Symbol name ∷ []) vs all ws → IsRight ts (true, all) ws
+  production : {x : Bool × List Element} {ts us : List Token} → Then (Signs sign.Produces) (λ produces. Then (Repeats IsFurtherElement []) (λ all. Done (false, all))) ts x us → IsRight ts x us
+  listof : {x : Bool × List Element} {ts us : List Token} → Then (Keys key.Listof) (λ word. Then AreChoices (λ all. Done (true, all))) ts x us → IsRight ts x us
+
+-- what may continue elements, and a right side
+abbrev pub is_element_kind : TokenKind → Bool
+is_element_kind (kind.Word id) = true
+is_element_kind (kind.Literal id) = true
+is_element_kind _ = false
+
+abbrev pub is_element : Token → Bool
+is_element t = is_element_kind t.what
+
+abbrev pub is_bar_kind : TokenKind → Bool
+is_bar_kind (kind.Sign sign.Bar) = true
+is_bar_kind _ = false
+
+abbrev pub is_bar : Token → Bool
+is_bar t = is_bar_kind t.what
+
+abbrev pub continues_right : Token → Bool
+continues_right t = is_element_kind t.what || is_bar_kind t.what
 
 -- ---- bodies, rules, symbols
 
@@ -134,82 +154,88 @@ rule_text k = codes "rule_" ++ decimal k
 abbrev pub called_in : List (List ℕ) → ℕ → StrId
 called_in texts k = record { 0 = position_or_len (bytes_eq (rule_text k)) texts }
 
--- the first byte of the tokens
-abbrev pub start : List Token → ℕ
-start [] = 0
-start (t ∷ ts) = t.from
+-- ["INHERITS" name {"," name}]
+abbrev pub AreInherited : List Token → List Name → List Token → Type 0
+AreInherited = Optional (Then (Keys key.Inherits) (λ word. AreNames)) []
 
--- Computations are numbered through all items. A phrase is begun at the number of the next one, and its value has the number behind it.
--- `called` is the name of a rule without one, by its number.
+abbrev pub is_inherits_kind : TokenKind → Bool
+is_inherits_kind (kind.Key key.Inherits) = true
+is_inherits_kind _ = false
+
+-- what may continue the list of classes
+abbrev pub continues_inherited : Token → Bool
+continues_inherited t = is_inherits_kind t.what || is_comma_kind t.what
+
+-- what begins the declarations of a symbol
+abbrev pub is_declaring_kind : TokenKind → Bool
+is_declaring_kind (kind.Sign sign.Comma) = true
+is_declaring_kind (kind.Sign sign.Colon) = true
+is_declaring_kind _ = false
+
+abbrev pub is_declaring : Token → Bool
+is_declaring t = is_declaring_kind t.what
+
+-- ["CLASS"] "SYMBOL": where it begins, and whether it is a class
+pub data IsSymbolHead : List Token → ℕ × Bool → List Token → Type 0 where
+  class : {x : ℕ × Bool} {ts us : List Token} → Then (Keys key.Class) (λ word. Then (Keys key.Symbol) (λ symbol. Done (word.from, true))) ts x us → IsSymbolHead ts x us
+  plain : {x : ℕ × Bool} {ts us : List Token} → Then (Keys key.Symbol) (λ symbol. Done (symbol.from, false)) ts x us → IsSymbolHead ts x us
+
+-- Computations are numbered through all items: a phrase is begun at the number of the next one, and its value has the number behind it.
+-- `called` is what a rule without a name is called, by its number among the rules, from 1.
 module _ (called : ℕ → StrId) (One : ℕ → List Token → Comp × ℕ → List Token → Type 0) where
   -- comp ";"
-  pub data IsFurtherComputation : List Comp × ℕ → List Token → List Comp × ℕ → List Token → Type 0 where
-    further : {ts us vs : List Token} {found : List Comp × ℕ} {one : Comp × ℕ} {semicolon : Token}
-        → One found.1 ts one us → Signs sign.Semicolon us semicolon vs → IsFurtherComputation found ts (found.0 ++ one.0 ∷ [], one.1) vs
+  abbrev pub IsFurtherComputation : List Comp × ℕ → List Token → List Comp × ℕ → List Token → Type 0
+  IsFurtherComputation found = Then (One found.1) (λ comp. Then (Signs sign.Semicolon) (λ semicolon. Done (found.0 ++ comp.0 ∷ [], comp.1)))
 
   -- ["COMPUTE" {comp ";"}]
-  pub data AreComputations : ℕ → List Token → List Comp × ℕ → List Token → Type 0 where
-    none : {n : ℕ} {ts : List Token} → AreComputations n ts ([], n) ts
-    some : {n : ℕ} {ts us vs : List Token} {word : Token} {all : List Comp × ℕ} → Keys key.Compute ts word us → Repeats IsFurtherComputation ([], n) us all vs → AreComputations n ts all vs
+  abbrev pub AreComputations : ℕ → List Token → List Comp × ℕ → List Token → Type 0
+  AreComputations n = Optional (Then (Keys key.Compute) (λ word. Repeats IsFurtherComputation ([], n))) ([], n)
 
   -- ["COMPUTE" {comp ";"}] "END" ";"
-  pub data IsBody : ℕ → List Token → List Comp × ℕ → List Token → Type 0 where
-    body : {n : ℕ} {ts us vs ws : List Token} {all : List Comp × ℕ} {word semicolon : Token}
-        → AreComputations n ts all us → Keys key.End us word vs → Signs sign.Semicolon vs semicolon ws → IsBody n ts all ws
+  abbrev pub IsBody : ℕ → List Token → List Comp × ℕ → List Token → Type 0
+  IsBody n = Then (AreComputations n) (λ all. Then (Keys key.End) (λ word. Then (Signs sign.Semicolon) (λ semicolon. Done all)))
 
-  -- [name], where a rule without one is called by its number among the rules, from 1
-  pub data IsRuleName : ℕ → List Token → StrId → List Token → Type 0 where
-    given : {k : ℕ} {ts us : List Token} {name : Name} → IsName ts name us → IsRuleName k ts name.id us
-    counted : {k : ℕ} {ts : List Token} → IsRuleName k ts (called k) ts
+  -- [name]
+  abbrev pub IsRuleName : ℕ → List Token → StrId → List Token → Type 0
+  IsRuleName k = Optional (Then IsName (λ name. Done name.id)) (called k)
 
   -- "RULE" [name] ":" name ( "::=" {element} | "LISTOF" name {"|" name} ) body
-  pub data IsRule : ℕ → ℕ → List Token → RuleItem × ℕ → List Token → Type 0 where
-    rule : {k n : ℕ} {ts us vs ws xs ys zs : List Token} {word colon : Token} {name : StrId} {left : Name} {right : Bool × List Element} {all : List Comp × ℕ}
-        → Keys key.Rule ts word us → IsRuleName k us name vs → Signs sign.Colon vs colon ws → IsName ws left xs → IsRight xs right ys → IsBody n ys all zs
-        → IsRule k n ts (record { at = word.from; name = name; left = left; list = right.0; right = right.1; body = all.0 }, all.1) zs
+  abbrev pub IsRule : ℕ → ℕ → List Token → RuleItem × ℕ → List Token → Type 0
+  IsRule k n = Then (Keys key.Rule) (λ word. Then (IsRuleName k) (λ name. Then (Signs sign.Colon) (λ colon. Then IsName (λ left. Then IsRight (λ right. Then (IsBody n) (λ all.
+      Done (record { at = word.from; name = name; left = left; list = right.0; right = right.1; body = all.0 }, all.1)))))))
 
-  -- ["INHERITS" name {"," name}]
-  pub data AreInherited : List Token → List Name → List Token → Type 0 where
-    none : {ts : List Token} → AreInherited ts [] ts
-    some : {ts us vs : List Token} {word : Token} {names : List Name} → Keys key.Inherits ts word us → AreNames us names vs → AreInherited ts names vs
+  -- {"," name} ":" decls ";", behind the first name
+  abbrev pub IsDeclaring : ℕ × Bool → Name → ℕ → List Token → SymbolItem × ℕ → List Token → Type 0
+  IsDeclaring head first n = Then (AreMore IsName (first ∷ [])) (λ names. Then (Signs sign.Colon) (λ colon. Then AreDecls (λ all. Then (Signs sign.Semicolon) (λ semicolon.
+      Done (record { at = head.0; class = head.1; names = names; inherits = []; decls = all; body = [] }, n)))))
 
-  -- ["CLASS"]
-  pub data IsClass : List Token → Bool → List Token → Type 0 where
-    no_class : {ts : List Token} → IsClass ts false ts
-    class : {ts us : List Token} {word : Token} → Keys key.Class ts word us → IsClass ts true us
+  -- ["INHERITS" name {"," name}] body, behind the only name
+  abbrev pub IsComputing : ℕ × Bool → Name → ℕ → List Token → SymbolItem × ℕ → List Token → Type 0
+  IsComputing head first n = Then AreInherited (λ inherited. Then (IsBody n) (λ all. Done (record { at = head.0; class = head.1; names = first ∷ []; inherits = inherited; decls = []; body = all.0 }, all.1)))
 
-  -- {"," name} ":" decls ";" | ["INHERITS" name {"," name}] body: what stands behind the first name of a symbol's item, which begins here
-  pub data IsAbout : ℕ → Bool → Name → ℕ → List Token → SymbolItem × ℕ → List Token → Type 0 where
-    declaring : {at n : ℕ} {class : Bool} {first : Name} {ts us vs ws xs : List Token} {names : List Name} {all : List Decl} {colon semicolon : Token}
-        → AreMore IsName (first ∷ []) ts names us → Signs sign.Colon us colon vs → AreDecls vs all ws → Signs sign.Semicolon ws semicolon xs
-        → IsAbout at class first n ts (record { at = at; class = class; names = names; inherits = []; decls = all; body = [] }, n) xs
-    computing : {at n : ℕ} {class : Bool} {first : Name} {ts us vs : List Token} {inherited : List Name} {all : List Comp × ℕ}
-        → AreInherited ts inherited us → IsBody n us all vs
-        → IsAbout at class first n ts (record { at = at; class = class; names = first ∷ []; inherits = inherited; decls = []; body = all.0 }, all.1) vs
+  -- what stands behind the first name of a symbol's item
+  pub data IsAbout (head : ℕ × Bool) (first : Name) (n : ℕ) : List Token → SymbolItem × ℕ → List Token → Type 0 where
+    declaring : {x : SymbolItem × ℕ} {ts us : List Token} → IsDeclaring head first n ts x us → IsAbout head first n ts x us
+    computing : {x : SymbolItem × ℕ} {ts us : List Token} → IsComputing head first n ts x us → IsAbout head first n ts x us
 
   -- ["CLASS"] "SYMBOL" name, and what stands behind it
-  pub data IsSymbol : ℕ → List Token → SymbolItem × ℕ → List Token → Type 0 where
-    symbol : {n : ℕ} {ts us vs ws xs : List Token} {class : Bool} {word : Token} {first : Name} {item : SymbolItem × ℕ}
-        → IsClass ts class us → Keys key.Symbol us word vs → IsName vs first ws → IsAbout (start ts) class first n ws item xs → IsSymbol n ts item xs
+  abbrev pub IsSymbol : ℕ → List Token → SymbolItem × ℕ → List Token → Type 0
+  IsSymbol n = Then IsSymbolHead (λ head. Then IsName (λ first. IsAbout head first n))
 
   -- ---- the whole
 
   -- One more item, behind those that are found with the number of the next computation.
-  pub data IsFurtherItem : Spec × ℕ → List Token → Spec × ℕ → List Token → Type 0 where
-    rule : {found : Spec} {n m : ℕ} {ts us : List Token} {item : RuleItem} → IsRule (suc (length found.rules)) n ts (item, m) us
-        → IsFurtherItem (found, n) ts (record found { rules = found.rules ++ item ∷ [] }, m) us
-    symbol : {found : Spec} {n m : ℕ} {ts us : List Token} {item : SymbolItem} → IsSymbol n ts (item, m) us
-        → IsFurtherItem (found, n) ts (record found { symbols = found.symbols ++ item ∷ [] }, m) us
-    attr : {found : Spec} {n : ℕ} {ts us : List Token} {all : List Decl} → IsAttr ts all us
-        → IsFurtherItem (found, n) ts (record found { attrs = found.attrs ++ all }, n) us
-    term : {found : Spec} {n : ℕ} {ts us : List Token} {all : List Typed1} → IsTerm ts all us
-        → IsFurtherItem (found, n) ts (record found { terms = found.terms ++ all }, n) us
-    chain : {found : Spec} {n : ℕ} {ts us : List Token} {all : List Typed1} → IsChain ts all us
-        → IsFurtherItem (found, n) ts (record found { chains = found.chains ++ all }, n) us
+  pub data IsFurtherItem (found : Spec × ℕ) : List Token → Spec × ℕ → List Token → Type 0 where
+    rule : {x : Spec × ℕ} {ts us : List Token} → Then (IsRule (length found.0.rules + 1) found.1) (λ item. Done (record found.0 { rules = found.0.rules ++ item.0 ∷ [] }, item.1)) ts x us
+        → IsFurtherItem found ts x us
+    symbol : {x : Spec × ℕ} {ts us : List Token} → Then (IsSymbol found.1) (λ item. Done (record found.0 { symbols = found.0.symbols ++ item.0 ∷ [] }, item.1)) ts x us → IsFurtherItem found ts x us
+    attr : {x : Spec × ℕ} {ts us : List Token} → Then IsAttr (λ all. Done (record found.0 { attrs = found.0.attrs ++ all }, found.1)) ts x us → IsFurtherItem found ts x us
+    term : {x : Spec × ℕ} {ts us : List Token} → Then IsTerm (λ all. Done (record found.0 { terms = found.0.terms ++ all }, found.1)) ts x us → IsFurtherItem found ts x us
+    chain : {x : Spec × ℕ} {ts us : List Token} → Then IsChain (λ all. Done (record found.0 { chains = found.0.chains ++ all }, found.1)) ts x us → IsFurtherItem found ts x us
 
   abbrev pub no_items : Spec
   no_items = record { rules = []; symbols = []; attrs = []; terms = []; chains = [] }
 
   -- { rule | symbol | attr | term | chain }
-  pub data IsSpec : List Token → Spec → List Token → Type 0 where
-    spec : {ts us : List Token} {found : Spec} {n : ℕ} → Repeats IsFurtherItem (no_items, 0) ts (found, n) us → IsSpec ts found us
+  abbrev pub IsSpec : List Token → Spec → List Token → Type 0
+  IsSpec = Then (Repeats IsFurtherItem (no_items, 0)) (λ found. Done found.0)

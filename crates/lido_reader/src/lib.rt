@@ -1,6 +1,7 @@
 //! The reader of specifications: tokens to the syntax tree, or the place of the first token that fits none.
 #![tactic(auto)]
 
+mod counts;
 mod declarations;
 mod fault;
 pub mod names;

@@ -5,5 +5,8 @@ mod counts;
 mod declarations;
 mod fault;
 pub mod names;
+mod right_sides;
+mod symbols;
+
 
 pub use fault::ReadSpecFault;

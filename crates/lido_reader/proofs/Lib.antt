@@ -1,1 +1,2 @@
 pub mod PhrasesLemmas
+pub mod PlacesLemmas

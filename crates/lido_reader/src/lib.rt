@@ -4,5 +4,6 @@
 mod counts;
 mod fault;
 pub mod names;
+mod places;
 
 pub use fault::ReadSpecFault;

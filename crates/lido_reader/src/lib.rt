@@ -4,6 +4,7 @@
 mod counts;
 mod fault;
 pub mod names;
+mod operators;
 mod places;
 
 pub use fault::ReadSpecFault;

@@ -1,2 +1,3 @@
 pub mod PhrasesLemmas
 pub mod PlacesLemmas
+pub mod ExpressionsLemmas

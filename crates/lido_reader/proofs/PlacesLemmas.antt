@@ -63,11 +63,11 @@ module _ (words : Keyword → Option Place) where
 -- ---- phrases that may be left out
 
 -- the same token leads both
-same_token : (k : TokenKind) (ts us vs : List Token) (t : Token) → SameHead ts us → Sees k us t vs → (ws : List Token) × Sees k ts t ws
+pub same_token : (k : TokenKind) (ts us vs : List Token) (t : Token) → SameHead ts us → Sees k us t vs → (ws : List Token) × Sees k ts t ws
 same_token k [] us vs t s (token e) = absurd s
 same_token k (u ∷ ts) us vs t s (token e) = (ts, subst (λ z. Sees k (z ∷ ts) t ts) (sym s) (token e))
 
-goes_on : (k : TokenKind) (c : Token → Bool) → ((t : Token) → t.what ≡ k → IsTrue (c t)) → (ts ws us : List Token) (t : Token) → Sees k ts t ws → SameHead ts us → GoesOn c us
+pub goes_on : (k : TokenKind) (c : Token → Bool) → ((t : Token) → t.what ≡ k → IsTrue (c t)) → (ts ws us : List Token) (t : Token) → Sees k ts t ws → SameHead ts us → GoesOn c us
 goes_on k c continues ts ws [] t (token e) s = absurd s
 goes_on k c continues ts ws (u ∷ us) t (token e) s = continues u (ap (λ z. z.what) (sym s) ∙ e)
 

@@ -2,4 +2,5 @@ pub mod Phrases
 pub mod Counting
 pub mod Places
 pub mod Expressions
+pub mod Parts
 pub mod Computations

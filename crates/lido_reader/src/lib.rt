@@ -5,8 +5,10 @@ mod counts;
 mod declarations;
 mod fault;
 pub mod names;
+mod operators;
+mod places;
 mod right_sides;
+mod rule_names;
 mod symbols;
-
 
 pub use fault::ReadSpecFault;

@@ -1,13 +1,15 @@
-//! The parts of SYMBOL items.
-ghost use Rattle.std.specs.Prelude.{◌≡◌, ◌<◌, ◌≤◌, ◌∷◌, [], ◌↔◌, IsTrue, length, IfOk};
+//! SYMBOL items.
+ghost use Rattle.std.specs.Prelude.{◌≡◌, ◌+◌, ◌<◌, ◌≤◌, ◌∷◌, [], ◌↔◌, List as Sequence, ℕ, IsTrue, length, IfOk};
 ghost use Rattle.lido_base.specs.Reading.{GoesOn, nothing};
-ghost use Rattle.lido_reader.specs.Items.{AreInherited, IsSymbolHead, continues_inherited, is_declaring};
+ghost use Rattle.lido_reader.specs.Items.{AreInherited, IsDeclaring, IsSymbolHead, continues_inherited, is_declaring};
 ghost use Rattle.lido_reader.specs.Phrases.{AreMore, IsName, ReadsSeen, is_comma};
 
 use crate::ReadSpecFault;
-use crate::names::{after_key, after_sign, keyword, name, names};
+use crate::declarations::decls;
+use crate::names::{after_key, after_sign, keyword, name, names, sign};
+use lido_base::List;
 use lido_lexer::{Keyword, Sign, Token, is_sign, next};
-use lido_syntax::Name;
+use lido_syntax::{Name, SymbolItem};
 use std::alloc::Global;
 
 /// How a SYMBOL item begins: where, and whether it is a class.
@@ -92,4 +94,31 @@ pub(crate) fn is_declaring(tokens: &[Token]) -> bool
         return true;
     }
     is_sign(token, Sign::Colon)
+}
+
+/// `{"," name} ":" decls ";"`, behind the first name
+fn declaring(
+    alloc: Global,
+    tokens: &[Token],
+    end: u32,
+    head: SymbolHead,
+    first: Name,
+    number: u32,
+) -> Result<((SymbolItem, u32), &[Token]), ReadSpecFault>
+    ensures reads { ReadsSeen (λ item. item) (IsDeclaring (head.at, head.class) first number) nothing end tokens.now result }
+    ensures shorter { IfOk result (λ x. length x.1.now < length tokens.now) }
+{
+    let (all, behind_names) = further_names(alloc, first, tokens, end)?;
+    let (_, behind_colon) = sign(behind_names, end, Sign::Colon)?;
+    let (declared, behind_decls) = decls(alloc, behind_colon, end)?;
+    let (_, rest) = sign(behind_decls, end, Sign::Semicolon)?;
+    let item = SymbolItem {
+        at: head.at,
+        class: head.class,
+        names: List::from_vec(all),
+        inherits: List::new(alloc),
+        decls: List::from_vec(declared),
+        body: List::new(alloc),
+    };
+    Ok(((item, number), rest))
 }

@@ -88,13 +88,13 @@ begin {X} {M} {N} {c} {ts} to from = chosen M N c ts to (λ us vs x s n. inl (fr
 abbrev pub Starts : {Y : Type 0} → (Token → Bool) → (Y → List Token → Y → List Token → Type 0) → Type 0
 Starts {Y} starts Step = (y z : Y) (ts us : List Token) → Step y ts z us → GoesOn starts ts
 
-goes_same : (c : Token → Bool) (ts us : List Token) → SameHead ts us → GoesOn c us → GoesOn c ts
+pub goes_same : (c : Token → Bool) (ts us : List Token) → SameHead ts us → GoesOn c us → GoesOn c ts
 goes_same c [] [] s h = h
 goes_same c [] (u ∷ us) s h = absurd s
 goes_same c (t ∷ ts) [] s h = absurd s
 goes_same c (t ∷ ts) (u ∷ us) s h = subst (λ z. IsTrue (c z)) (sym s) h
 
-goes_back : (c : Token → Bool) (ts us : List Token) → SameHead ts us → GoesOn c ts → GoesOn c us
+pub goes_back : (c : Token → Bool) (ts us : List Token) → SameHead ts us → GoesOn c ts → GoesOn c us
 goes_back c [] [] s h = h
 goes_back c [] (u ∷ us) s h = absurd s
 goes_back c (t ∷ ts) [] s h = absurd s

@@ -14,7 +14,7 @@ use Rattle.lido_syntax.specs.declared.spec.Element.{Element}
 use Rattle.lido_syntax.specs.declared.spec.Element.TheVariants as element
 use Rattle.lido_reader.specs.Phrases.{Done, Then, IsName, word}
 use Rattle.lido_reader.specs.Items.{Repeats, IsElement, symbol, literal, IsFurtherElement, IsFurtherListed, AreChoices, IsRight, production, listof, is_element, is_element_kind, is_bar, is_bar_kind, continues_right}
-use Rattle.lido_reader.proofs.PhrasesLemmas.{Completable, name_completable, one_finds, IsSaidByHead, IsNeverEmpty, chosen, sees_said, sees_some}
+use Rattle.lido_reader.proofs.PhrasesLemmas.{Completable, name_completable, one_finds, IsSaidByHead, IsNeverEmpty, chosen, sees_said, sees_some, sees_completable}
 use Rattle.lido_reader.proofs.PartsLemmas.{then_finish, finish, Starts, Steps, repeat_finish, or_left, or_right, seen_goes, seen_apart, unseen_head}
 
 -- ---- elements
@@ -111,3 +111,7 @@ listof_from ts none ws vs x s (production p) = absurd (unseen_head (Signs sign.P
 
 pub listof_leads : (ts : List Token) → ((t : Token) (us : List Token) → Signs sign.Produces ts t us → ⊥) → Leads Listof continues_right ts IsRight continues_right ts
 listof_leads ts none = chosen Listof IsRight continues_right ts (λ us vs x p. listof p) (listof_from ts none)
+
+pub right_completable : Completable IsRight
+right_completable = let p : Completable Production = then_finish (sees_completable (kind.Sign sign.Produces)) (λ produces. then_finish (repeat_finish element_steps []) (λ all. finish)) in
+    let (more, x, whole) = p in (more, x, (λ vs. production (whole vs)))

@@ -154,6 +154,14 @@ rule_text k = codes "rule_" ++ decimal k
 abbrev pub called_in : List (List ℕ) → ℕ → StrId
 called_in texts k = record { 0 = position_or_len (bytes_eq (rule_text k)) texts }
 
+-- what may continue a rule's name that is left out
+abbrev pub is_word_kind : TokenKind → Bool
+is_word_kind (kind.Word id) = true
+is_word_kind _ = false
+
+abbrev pub is_word : Token → Bool
+is_word t = is_word_kind t.what
+
 -- ["INHERITS" name {"," name}]
 abbrev pub AreInherited : List Token → List Name → List Token → Type 0
 AreInherited = Optional (Then (Keys key.Inherits) (λ word. AreNames)) []
@@ -180,9 +188,25 @@ pub data IsSymbolHead : List Token → ℕ × Bool → List Token → Type 0 whe
   class : {x : ℕ × Bool} {ts us : List Token} → Then (Keys key.Class) (λ word. Then (Keys key.Symbol) (λ symbol. Done (word.from, true))) ts x us → IsSymbolHead ts x us
   plain : {x : ℕ × Bool} {ts us : List Token} → Then (Keys key.Symbol) (λ symbol. Done (symbol.from, false)) ts x us → IsSymbolHead ts x us
 
+-- [name], where `called` is what the rule of a number is called that has none
+abbrev pub IsRuleName : (ℕ → StrId) → ℕ → List Token → StrId → List Token → Type 0
+IsRuleName called k = Optional (Then IsName (λ name. Done name.id)) (called k)
+
+-- {"," name} ":" decls ";", behind the first name
+abbrev pub IsDeclaring : ℕ × Bool → Name → ℕ → List Token → SymbolItem × ℕ → List Token → Type 0
+IsDeclaring head first n = Then (AreMore IsName (first ∷ [])) (λ names. Then (Signs sign.Colon) (λ colon. Then AreDecls (λ all. Then (Signs sign.Semicolon) (λ semicolon.
+    Done (record { at = head.0; class = head.1; names = names; inherits = []; decls = all; body = [] }, n)))))
+
+abbrev pub is_not_end_kind : TokenKind → Bool
+is_not_end_kind (kind.Key key.End) = false
+is_not_end_kind _ = true
+
+-- what may continue computations: all but END
+abbrev pub is_not_end : Token → Bool
+is_not_end t = is_not_end_kind t.what
+
 -- Computations are numbered through all items: a phrase is begun at the number of the next one, and its value has the number behind it.
--- `called` is what a rule without a name is called, by its number among the rules, from 1.
-module _ (called : ℕ → StrId) (One : ℕ → List Token → Comp × ℕ → List Token → Type 0) where
+module _ (One : ℕ → List Token → Comp × ℕ → List Token → Type 0) where
   -- comp ";"
   abbrev pub IsFurtherComputation : List Comp × ℕ → List Token → List Comp × ℕ → List Token → Type 0
   IsFurtherComputation found = Then (One found.1) (λ comp. Then (Signs sign.Semicolon) (λ semicolon. Done (found.0 ++ comp.0 ∷ [], comp.1)))
@@ -194,20 +218,6 @@ module _ (called : ℕ → StrId) (One : ℕ → List Token → Comp × ℕ → 
   -- ["COMPUTE" {comp ";"}] "END" ";"
   abbrev pub IsBody : ℕ → List Token → List Comp × ℕ → List Token → Type 0
   IsBody n = Then (AreComputations n) (λ all. Then (Keys key.End) (λ word. Then (Signs sign.Semicolon) (λ semicolon. Done all)))
-
-  -- [name]
-  abbrev pub IsRuleName : ℕ → List Token → StrId → List Token → Type 0
-  IsRuleName k = Optional (Then IsName (λ name. Done name.id)) (called k)
-
-  -- "RULE" [name] ":" name ( "::=" {element} | "LISTOF" name {"|" name} ) body
-  abbrev pub IsRule : ℕ → ℕ → List Token → RuleItem × ℕ → List Token → Type 0
-  IsRule k n = Then (Keys key.Rule) (λ word. Then (IsRuleName k) (λ name. Then (Signs sign.Colon) (λ colon. Then IsName (λ left. Then IsRight (λ right. Then (IsBody n) (λ all.
-      Done (record { at = word.from; name = name; left = left; list = right.0; right = right.1; body = all.0 }, all.1)))))))
-
-  -- {"," name} ":" decls ";", behind the first name
-  abbrev pub IsDeclaring : ℕ × Bool → Name → ℕ → List Token → SymbolItem × ℕ → List Token → Type 0
-  IsDeclaring head first n = Then (AreMore IsName (first ∷ [])) (λ names. Then (Signs sign.Colon) (λ colon. Then AreDecls (λ all. Then (Signs sign.Semicolon) (λ semicolon.
-      Done (record { at = head.0; class = head.1; names = names; inherits = []; decls = all; body = [] }, n)))))
 
   -- ["INHERITS" name {"," name}] body, behind the only name
   abbrev pub IsComputing : ℕ × Bool → Name → ℕ → List Token → SymbolItem × ℕ → List Token → Type 0
@@ -222,13 +232,20 @@ module _ (called : ℕ → StrId) (One : ℕ → List Token → Comp × ℕ → 
   abbrev pub IsSymbol : ℕ → List Token → SymbolItem × ℕ → List Token → Type 0
   IsSymbol n = Then IsSymbolHead (λ head. Then IsName (λ first. IsAbout head first n))
 
+-- `called` is what a rule without a name is called, by its number among the rules, from 1.
+module _ (called : ℕ → StrId) (One : ℕ → List Token → Comp × ℕ → List Token → Type 0) where
+  -- "RULE" [name] ":" name ( "::=" {element} | "LISTOF" name {"|" name} ) body
+  abbrev pub IsRule : ℕ → ℕ → List Token → RuleItem × ℕ → List Token → Type 0
+  IsRule k n = Then (Keys key.Rule) (λ word. Then (IsRuleName called k) (λ name. Then (Signs sign.Colon) (λ colon. Then IsName (λ left. Then IsRight (λ right. Then (IsBody One n) (λ all.
+      Done (record { at = word.from; name = name; left = left; list = right.0; right = right.1; body = all.0 }, all.1)))))))
+
   -- ---- the whole
 
   -- One more item, behind those that are found with the number of the next computation.
   pub data IsFurtherItem (found : Spec × ℕ) : List Token → Spec × ℕ → List Token → Type 0 where
     rule : {x : Spec × ℕ} {ts us : List Token} → Then (IsRule (length found.0.rules + 1) found.1) (λ item. Done (record found.0 { rules = found.0.rules ++ item.0 ∷ [] }, item.1)) ts x us
         → IsFurtherItem found ts x us
-    symbol : {x : Spec × ℕ} {ts us : List Token} → Then (IsSymbol found.1) (λ item. Done (record found.0 { symbols = found.0.symbols ++ item.0 ∷ [] }, item.1)) ts x us → IsFurtherItem found ts x us
+    symbol : {x : Spec × ℕ} {ts us : List Token} → Then (IsSymbol One found.1) (λ item. Done (record found.0 { symbols = found.0.symbols ++ item.0 ∷ [] }, item.1)) ts x us → IsFurtherItem found ts x us
     attr : {x : Spec × ℕ} {ts us : List Token} → Then IsAttr (λ all. Done (record found.0 { attrs = found.0.attrs ++ all }, found.1)) ts x us → IsFurtherItem found ts x us
     term : {x : Spec × ℕ} {ts us : List Token} → Then IsTerm (λ all. Done (record found.0 { terms = found.0.terms ++ all }, found.1)) ts x us → IsFurtherItem found ts x us
     chain : {x : Spec × ℕ} {ts us : List Token} → Then IsChain (λ all. Done (record found.0 { chains = found.0.chains ++ all }, found.1)) ts x us → IsFurtherItem found ts x us

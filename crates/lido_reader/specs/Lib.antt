@@ -4,3 +4,4 @@ pub mod Places
 pub mod Expressions
 pub mod Computations
 pub mod Items
+pub mod Specification

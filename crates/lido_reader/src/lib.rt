@@ -1,12 +1,15 @@
 //! The reader of specifications: tokens to the syntax tree, or the place of the first token that fits none.
 #![tactic(auto)]
 
+mod bodies;
+mod computations;
 mod counts;
 mod declarations;
 mod fault;
 pub mod names;
 mod right_sides;
+mod rule_names;
+mod rules;
 mod symbols;
-
 
 pub use fault::ReadSpecFault;

@@ -31,10 +31,7 @@ fn after_element(tokens: &[Token]) -> Option<(Element, &[Token])>
 }
 
 /// `{element}`
-fn elements(
-    alloc: Global,
-    tokens: &[Token],
-) -> Result<(Vec<Element>, &[Token]), ReadSpecFault>
+fn elements(alloc: Global, tokens: &[Token]) -> Result<(Vec<Element>, &[Token]), ReadSpecFault>
     ensures reads { IfOk result (λ x. Finds (Repeats IsFurtherElement []) is_element tokens.now x.0.items x.1.now) }
     ensures no_longer { IfOk result (λ x. length x.1.now ≤ length tokens.now) }
     ensures memory { IfErr result (λ fault. fault ≡ ReadSpecFault.Memory) }

@@ -1,0 +1,30 @@
+//! Computations.
+ghost use Rattle.std.specs.Prelude.{◌≡◌, ◌+◌, ◌<◌, ◌≤◌, List, ℕ, length, IfOk};
+ghost use Rattle.lido_base.specs.Reading.{nothing};
+ghost use Rattle.lido_lexer.specs.Lexing.{Gains};
+ghost use Rattle.lido_reader.specs.Computations.{IsComputation};
+ghost use Rattle.lido_reader.specs.Phrases.{ReadsSeen};
+ghost use Rattle.lido_reader.specs.Specification.{IsLater};
+
+use crate::ReadSpecFault;
+use lido_base::Strings;
+use lido_lexer::Token;
+use lido_syntax::Comp;
+use std::alloc::Global;
+
+/// A stand-in.
+pub(crate) fn computation<'a>(
+    alloc: Global,
+    tokens: &'a [Token],
+    end: u32,
+    strings: &mut Strings,
+    number: u32,
+) -> Result<((Comp, u32), &'a [Token]), ReadSpecFault>
+    ensures reads { (texts : List (List ℕ)) → IsLater strings.new texts → ReadsSeen (λ one. one) (IsComputation texts number) nothing end tokens.now result }
+    ensures shorter { IfOk result (λ x. length x.1.now < length tokens.now) }
+    ensures kept { Gains strings.old strings.new }
+    ensures few { length strings.new ≤ length strings.old + length tokens.now }
+    ensures each { IfOk result (λ x. length strings.new + length x.1.now ≤ length strings.old + length tokens.now) }
+{
+    Err(ReadSpecFault::Memory)
+}

@@ -1,6 +1,6 @@
 -- Bodies: computations one behind the other.
 use Rattle.std.specs.Prelude.{◌≡◌, ◌↔◌, ℕ, Bool, true, false, not, IsTrue, List, [], ◌∷◌, Some, refl}
-use Rattle.std.proofs.Common.{sym, ap, subst}
+use Rattle.std.proofs.Common.{sym, subst}
 use Rattle.lido_base.specs.Reading.{GoesOn, Leads, Finds, nothing}
 use Rattle.lido_lexer.specs.Seen.{Sees, token, Keys}
 use Rattle.lido_lexer.specs.declared.keyword.Keyword.{Keyword}
@@ -12,11 +12,11 @@ use Rattle.lido_syntax.specs.declared.spec.Comp.{Comp}
 use Rattle.lido_syntax.specs.declared.spec.Place.{Place}
 use Rattle.lido_syntax.specs.declared.spec.Target.{Target}
 use Rattle.lido_reader.specs.Phrases.{Then, IsName, word}
-use Rattle.lido_reader.specs.Places.{absent, present, IsPlace, named, context, in_targets}
+use Rattle.lido_reader.specs.Places.{absent, present, IsPlace, named, by_word, context, in_targets}
 use Rattle.lido_reader.specs.Computations.{IsTarget, attribute, chain_start, IsComputation, assignment, output}
 use Rattle.lido_reader.specs.Items.{AreComputations, IsBody, IsFurtherComputation, Repeats, is_not_end, is_not_end_kind}
 use Rattle.lido_reader.proofs.PhrasesLemmas.{Completable, Stops, sees_completable, sees_finds, sees_said, sees_some}
-use Rattle.lido_reader.proofs.PartsLemmas.{finish, then_finish, Starts, Steps, go_on, seen_goes, seen_stops, present_leads, absent_finds, optional_completable}
+use Rattle.lido_reader.proofs.PartsLemmas.{finish, then_finish, Steps, go_on, seen_goes, seen_stops, present_leads, absent_finds, optional_completable}
 use Rattle.lido_reader.proofs.DeclarationsLemmas.{semicolon_completable}
 
 -- ---- no computation begins with END
@@ -29,8 +29,8 @@ target_word key.End p e = cc
 target_word _ p e = refl
 
 place_starts : (ts us : List Token) (p : ℕ × Place) → IsPlace in_targets ts p us → GoesOn is_not_end ts
-place_starts ts us p (named n i) = name_starts _ _ _ n
-place_starts ts us p (context {w = w} {p = q} e d) = rw e (target_word w q d)
+place_starts ts us p (named n) = name_starts ts n.between n.value n.first
+place_starts ts us p (by_word (context {w = w} {p = q} e d)) = rw e (target_word w q d)
 
 target_starts : (ts us : List Token) (x : ℕ × Target) → IsTarget ts x us → GoesOn is_not_end ts
 target_starts ts us x (attribute p) = place_starts ts p.between p.value p.first

@@ -1,4 +1,6 @@
 pub mod PhrasesLemmas
+pub mod PlacesLemmas
+pub mod ExpressionsLemmas
 pub mod PartsLemmas
 pub mod DeclarationsLemmas
 pub mod RightSidesLemmas
@@ -6,3 +8,5 @@ pub mod TextsLemmas
 pub mod NamesOfRulesLemmas
 pub mod BodiesLemmas
 pub mod SymbolsLemmas
+pub mod ItemsLemmas
+pub mod WholeLemmas

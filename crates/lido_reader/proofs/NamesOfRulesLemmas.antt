@@ -1,6 +1,6 @@
 -- A rule's name, or what it is called where it has none.
-use Rattle.std.specs.Prelude.{◌≡◌, ℕ, Bool, IsTrue, List, ◌∷◌, refl}
-use Rattle.std.proofs.Common.{sym, subst}
+use Rattle.std.specs.Prelude.{◌≡◌, ℕ, Bool, List, refl}
+use Rattle.std.proofs.Common.{subst}
 use Rattle.lido_base.specs.Reading.{GoesOn, Finds, nothing}
 use Rattle.lido_base.specs.declared.ids.StrId.{StrId}
 use Rattle.lido_lexer.specs.Seen.{Signs}

@@ -1,5 +1,6 @@
 -- A reader that is led from part to part, and where it may be stuck; steps one behind the other.
-use Rattle.std.specs.Prelude.{◌≡◌, ℕ, Bool, true, false, IsTrue, ◌||◌, ◌⊎◌, List, [], ◌∷◌, refl}
+use Rattle.std.specs.Prelude.{◌≡◌, ℕ, Bool, true, false, IsTrue, ◌||◌, ◌⊎◌, List, [], ◌∷◌, refl, Result, Ok, Err}
+use Rattle.std.specs.Borrow.{Bor}
 use Rattle.std.proofs.Common.{sym, ap, subst, inl, inr, ◌∙◌}
 use Rattle.lido_base.specs.Reading.{SameHead, GoesOn, Finds, Leads, nothing}
 use Rattle.lido_base.proofs.ReadingLemmas.{empty_finds, leads_on}
@@ -7,7 +8,7 @@ use Rattle.lido_lexer.specs.Seen.{Sees, token}
 use Rattle.lido_lexer.specs.declared.token.Token.{Token}
 use Rattle.lido_lexer.specs.declared.token.TokenKind.{TokenKind}
 use Rattle.lido_reader.specs.declared.fault.ReadSpecFault.{ReadSpecFault}
-use Rattle.lido_reader.specs.Phrases.{Done, Then, RefusesAt}
+use Rattle.lido_reader.specs.Phrases.{Done, Then, RefusesAt, ReadsSeen}
 use Rattle.lido_reader.specs.Places.{Optional, absent, present}
 use Rattle.lido_reader.specs.Items.{Repeats, end, next}
 use Rattle.lido_reader.proofs.PhrasesLemmas.{IsSaidByHead, IsNeverEmpty, Completable, done_completable, then_completable, Stops, never, past, fails, ends, chosen, refused_by}
@@ -224,3 +225,9 @@ module _ {A X : Type 0} (First : List Token → A → List Token → Type 0) (Re
 
 pub optional_completable : {X : Type 0} {N : List Token → X → List Token → Type 0} {x : X} → Completable (Optional N x)
 optional_completable {X} {N} {x} = ([], x, (λ vs. absent refl))
+
+-- what is read of one phrase is read of another that it leads to
+pub reads_by : {X Y : Type 0} (view : X → Y) {M N : List Token → Y → List Token → Type 0} {c d : Token → Bool} {ts : List Token} (text_end : ℕ) → Leads M c ts N d ts
+    → (result : Result (X × Bor (List Token)) ReadSpecFault) → ReadsSeen view M c text_end ts result → ReadsSeen view N d text_end ts result
+reads_by view text_end l (Ok x) h = l.finds (view x.0) x.1.now h
+reads_by view {M} {N} {c} {d} {ts} text_end l (Err fault) h = refused_by M N c d text_end ts ts (λ bad r. l.refuses bad r) fault h

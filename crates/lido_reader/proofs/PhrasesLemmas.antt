@@ -1,5 +1,6 @@
 -- How a reader of a phrase follows the parts that it is made of.
-use Rattle.std.specs.Prelude.{◌≡◌, ℕ, Bool, IsTrue, ◌⊎◌, List, [], ◌∷◌, ◌++◌, refl, Some}
+use Rattle.std.specs.Prelude.{◌≡◌, ℕ, Bool, IsTrue, ◌⊎◌, List, [], ◌∷◌, ◌++◌, refl, Some, Result, Ok, Err}
+use Rattle.std.specs.Borrow.{Bor}
 use Rattle.std.proofs.Common.{sym, ◌∙◌, ap, subst, inl, inr, append_assoc}
 use Rattle.lido_base.specs.Reading.{SameHead, GoesOn, Finds, Refuses, Leads, nothing}
 use Rattle.lido_base.specs.declared.ids.StrId.{StrId}
@@ -16,7 +17,7 @@ use Rattle.lido_lexer.specs.declared.token.TokenKind.TheVariants as kind
 use Rattle.lido_syntax.specs.declared.spec.Name.{Name}
 use Rattle.lido_reader.specs.declared.fault.ReadSpecFault.{ReadSpecFault}
 use Rattle.lido_reader.specs.declared.fault.ReadSpecFault.TheVariants.{Syntax, Memory}
-use Rattle.lido_reader.specs.Phrases.{Done, Then, AreMore, end, comma, AreSeparated, is_comma, is_comma_kind, IsName, word, type_of, IsType, type_word, RefusesAt}
+use Rattle.lido_reader.specs.Phrases.{Done, Then, AreMore, end, comma, AreSeparated, is_comma, is_comma_kind, IsName, word, type_of, IsType, type_word, RefusesAt, ReadsSeen}
 
 -- ---- phrases that can be completed
 
@@ -284,3 +285,44 @@ comma_is_comma t e = rw e refl
 pub plain_wider : (c : Token → Bool) (us : List Token) → GoesOn nothing us → GoesOn c us
 plain_wider c [] h = h
 plain_wider c (u ∷ us) h = cc
+
+-- the first part is refused, and the reader answers the same
+pub refused_first : {A X : Type 0} (First : List Token → A → List Token → Type 0) (goes : Token → Bool) (Rest : A → List Token → X → List Token → Type 0) (N : List Token → X → List Token → Type 0) (c d : Token → Bool)
+    → Stops goes c Rest → (text_end : ℕ) (ts us : List Token) → Leads (Then First Rest) c us N d ts → ((a : A) → Completable (Rest a)) → (f : ReadSpecFault) → RefusesAt First goes text_end us f → RefusesAt N d text_end ts f
+refused_first First goes Rest N c d stops text_end ts us l done f h = refused_by First N goes d text_end us ts (λ bad r. fails First goes Rest N c d stops ts us bad l done r) f h
+
+-- ---- what continues a phrase
+
+-- a set of tokens that continue a phrase may be taken wider
+abbrev pub IsWider : (Token → Bool) → (Token → Bool) → Type 0
+IsWider c d = (us : List Token) → GoesOn c us → GoesOn d us
+
+pub widens : {X : Type 0} (N : List Token → X → List Token → Type 0) (c d : Token → Bool) (ts : List Token) → IsWider c d → Leads N c ts N d ts
+widens {X} N c d ts wider = record {
+  finds = λ x rest f. record { taken = f.taken; parts = f.parts; phrase = f.phrase; only = λ vs s y ws n. found x rest ws vs y (f.only vs s y ws n) };
+  refuses = λ bad f. record { taken = f.taken; parts = f.parts; more = f.more; value = f.value; begins = f.begins; stuck = λ vs s y ws n. wider ws (f.stuck vs s y ws n) };
+}
+  where
+    found : (x : X) (rest ws vs : List Token) (y : X) → ((y ≡ x) × (ws ≡ vs)) ⊎ GoesOn c ws → ((y ≡ x) × (ws ≡ vs)) ⊎ GoesOn d ws
+    found x rest ws vs y (inl e) = inl e
+    found x rest ws vs y (inr h) = inr (wider ws h)
+
+pub same_wider : (c : Token → Bool) → IsWider c c
+same_wider c us h = h
+
+-- behind the last part anything may stand that may stand behind the whole
+pub done_stops : {A X : Type 0} (goes c : Token → Bool) (f : A → X) → IsWider goes c → Stops goes c (λ a. Done (f a))
+done_stops goes c f wider a us vs x d h = subst (GoesOn c) (sym d.behind) (wider us h)
+
+sees_goes : (k : TokenKind) (goes : Token → Bool) → ((t : Token) → t.what ≡ k → IsTrue (goes t) → ⊥) → (us vs : List Token) (t : Token) → Sees k us t vs → GoesOn goes us → ⊥
+sees_goes k goes differs us vs t (token e) h = differs t e h
+
+-- a token comes next that does not continue the part before it
+pub token_stops : {A X : Type 0} (k : TokenKind) (goes c : Token → Bool) (R : A → Token → List Token → X → List Token → Type 0) → ((t : Token) → t.what ≡ k → IsTrue (goes t) → ⊥) → Stops goes c (λ a. Then (Sees k) (R a))
+token_stops k goes c R differs a us vs x n h = absurd (sees_goes k goes differs us n.between n.value n.first h)
+
+-- what leads to a phrase, and how the reader answers it, as it is
+pub reads_by : {Y Z : Type 0} (view : Y → Z) (M N : List Token → Z → List Token → Type 0) (c d : Token → Bool) (text_end : ℕ) (us ts : List Token) → Leads M c us N d ts
+    → (r : Result (Y × Bor (List Token)) ReadSpecFault) → ReadsSeen view M c text_end us r → ReadsSeen view N d text_end ts r
+reads_by view M N c d text_end us ts l (Ok x) h = l.finds (view x.0) x.1.now h
+reads_by view M N c d text_end us ts l (Err f) h = refused_by M N c d text_end us ts l.refuses f h

@@ -1,18 +1,17 @@
 -- The parts of right sides.
-use Rattle.std.specs.Prelude.{◌≡◌, ◌⊎◌, Bool, true, false, IsTrue, ◌||◌, List, [], ◌∷◌, ◌++◌, refl}
-use Rattle.std.proofs.Common.{sym, ◌∙◌, ap, subst, inl, inr}
+use Rattle.std.specs.Prelude.{◌≡◌, ◌⊎◌, Bool, true, false, IsTrue, List, [], ◌∷◌, refl}
+use Rattle.std.proofs.Common.{sym, ap, subst, inl}
 use Rattle.lido_base.specs.Reading.{SameHead, GoesOn, Finds, Leads, nothing}
 use Rattle.lido_base.specs.declared.ids.StrId.{StrId}
-use Rattle.lido_lexer.specs.Seen.{Sees, token, Signs, Keys}
+use Rattle.lido_lexer.specs.Seen.{token, Signs, Keys}
 use Rattle.lido_lexer.specs.declared.keyword.Keyword.TheVariants as key
 use Rattle.lido_lexer.specs.declared.sign.Sign.TheVariants as sign
 use Rattle.lido_lexer.specs.declared.token.Token.{Token}
 use Rattle.lido_lexer.specs.declared.token.TokenKind.{TokenKind}
 use Rattle.lido_lexer.specs.declared.token.TokenKind.TheVariants as kind
-use Rattle.lido_syntax.specs.declared.spec.Name.{Name}
 use Rattle.lido_syntax.specs.declared.spec.Element.{Element}
 use Rattle.lido_syntax.specs.declared.spec.Element.TheVariants as element
-use Rattle.lido_reader.specs.Phrases.{Done, Then, IsName, word}
+use Rattle.lido_reader.specs.Phrases.{Done, Then, word}
 use Rattle.lido_reader.specs.Items.{Repeats, IsElement, symbol, literal, IsFurtherElement, IsFurtherListed, AreChoices, IsRight, production, listof, is_element, is_element_kind, is_bar, is_bar_kind, continues_right}
 use Rattle.lido_reader.proofs.PhrasesLemmas.{Completable, name_completable, one_finds, IsSaidByHead, IsNeverEmpty, chosen, sees_said, sees_some, sees_completable}
 use Rattle.lido_reader.proofs.PartsLemmas.{then_finish, finish, Starts, Steps, repeat_finish, or_left, or_right, seen_goes, seen_apart, unseen_head}

@@ -1,8 +1,8 @@
 -- The parts of SYMBOL items.
 use Rattle.std.specs.Prelude.{◌≡◌, ◌⊎◌, ◌↔◌, ℕ, Bool, true, false, IsTrue, ◌||◌, List, [], ◌∷◌, refl}
-use Rattle.std.proofs.Common.{sym, ◌∙◌, ap, subst, inl, inr}
-use Rattle.lido_base.specs.Reading.{SameHead, GoesOn, Finds, Refuses, Leads, nothing}
-use Rattle.lido_lexer.specs.Seen.{Sees, token, Keys, Signs}
+use Rattle.std.proofs.Common.{sym, ap, subst, inl}
+use Rattle.lido_base.specs.Reading.{SameHead, GoesOn, Finds, Leads, nothing}
+use Rattle.lido_lexer.specs.Seen.{Keys, Signs}
 use Rattle.lido_lexer.specs.declared.keyword.Keyword.TheVariants as key
 use Rattle.lido_lexer.specs.declared.sign.Sign.TheVariants as sign
 use Rattle.lido_lexer.specs.declared.token.Token.{Token}
@@ -17,7 +17,7 @@ use Rattle.lido_reader.specs.Phrases.{Done, Then, AreMore, end, comma, IsName, i
 use Rattle.lido_reader.specs.Items.{IsBody, IsDeclaring, IsComputing, IsAbout, declaring, computing, AreNames, AreInherited, IsSymbolHead, class, plain, is_inherits_kind, continues_inherited, is_declaring, is_declaring_kind}
 use Rattle.lido_reader.proofs.PhrasesLemmas.{Completable, Stops, chosen, refused_by, sees_said, sees_some, sees_finds}
 use Rattle.lido_reader.proofs.BodiesLemmas.{seen_not, body_apart, body_stops, body_completable}
-use Rattle.lido_reader.proofs.PartsLemmas.{finish, then_finish, optional_completable, goes_same, goes_back, go_on, widely, or_left, or_right, seen_goes, seen_apart, unseen_head, present_leads, absent_finds}
+use Rattle.lido_reader.proofs.PartsLemmas.{finish, then_finish, optional_completable, goes_same, goes_back, go_on, widely, or_right, seen_goes, seen_apart, unseen_head, present_leads, absent_finds}
 
 abbrev Comps : Type 0
 Comps = List Comp × ℕ

@@ -1,11 +1,11 @@
 -- Texts that are gained, and the ids of the texts that rules are called by.
 use Rattle.std.specs.Prelude.{◌≡◌, ℕ, zero, suc, Bool, true, false, List, [], ◌∷◌, ◌++◌, Some, slice_get, not, if◌then◌else◌, refl}
-use Rattle.std.proofs.Common.{sym, ◌∙◌, ap, subst, append_assoc, append-nil, cond, ◌+◌, arith}
-use Rattle.std.specs.List.{position_or_len, IsDistinct, list_any}
+use Rattle.std.proofs.Common.{sym, ap, subst, cond, ◌+◌, arith}
+use Rattle.std.specs.List.{position_or_len, list_any}
 use Rattle.std.specs.Str.{bytes_eq}
 use Rattle.std.proofs.lemmas.Slice.Eq.{bytes_eq-Decides}
 use Rattle.std.proofs.lemmas.Option.{none-some}
-use Rattle.lido_base.specs.Texts.{IsDistinctTexts, with_text}
+use Rattle.lido_base.specs.Texts.{with_text}
 use Rattle.lido_lexer.specs.Lexing.{Gains}
 use Rattle.lido_base.specs.declared.ids.StrId.{StrId}
 use Rattle.lido_reader.specs.Items.{called_in, rule_text}

@@ -1,6 +1,6 @@
 -- The grammar of expressions. A phrase is given what its computation may still spend and the number that comes next, and gives
 -- its tree with what is left of both.
-use Rattle.std.specs.Prelude.{◌≡◌, ℕ, zero, suc, ◌<◌, ℤ, Bool, true, false, ◌||◌, nat_le, List, [], ◌∷◌, ◌++◌, Option, Some, None, slice_get, codes}
+use Rattle.std.specs.Prelude.{◌≡◌, ℕ, suc, ◌<◌, ℤ, Bool, true, false, ◌||◌, nat_le, List, [], ◌∷◌, ◌++◌, Option, Some, None, slice_get, codes}
 use Rattle.lido_base.specs.declared.ids.StrId.{StrId}
 use Rattle.lido_lexer.specs.Seen.{Signs}
 use Rattle.lido_lexer.specs.declared.keyword.Keyword.TheVariants as key
@@ -16,6 +16,8 @@ use Rattle.lido_reader.specs.Phrases.{IsName}
 use Rattle.lido_reader.specs.Places.{IsIndex, IsRead, IsIncluding, AreConstituents, is_option_kind}
 use Rattle.lido_reader.specs.Counting.{spent, numbered}
 use Rattle.lido_reader.specs.declared.counts.Counts.{Counts}
+use Rattle.lido_reader.specs.declared.operators.Start.{Start}
+use Rattle.lido_reader.specs.declared.operators.Start.TheVariants as start
 
 -- the functions of the prefix operators
 abbrev pub prefix_of : TokenKind → Option (List ℕ)
@@ -51,6 +53,25 @@ constant_of at (kind.Str s) = Some (expr.Str at s)
 constant_of at (kind.Key key.True) = Some (expr.Bool at true)
 constant_of at (kind.Key key.False) = Some (expr.Bool at false)
 constant_of at _ = None
+
+-- what a token begins, where an operand is read
+abbrev pub start_of : TokenKind → Start
+start_of (kind.Int n) = start.Constant
+start_of (kind.Str s) = start.Constant
+start_of (kind.Word id) = start.Word
+start_of (kind.Sign sign.ParenOpen) = start.Counted
+start_of (kind.Key key.True) = start.Constant
+start_of (kind.Key key.False) = start.Constant
+start_of (kind.Key key.PtgNull) = start.Counted
+start_of (kind.Key key.If) = start.Counted
+start_of (kind.Key key.Order) = start.Counted
+start_of (kind.Key key.Including) = start.Including
+start_of (kind.Key key.Constituents) = start.Constituents
+start_of (kind.Key key.Tail) = start.Context
+start_of (kind.Key key.Synt) = start.Context
+start_of (kind.Key key.Inh) = start.Context
+start_of (kind.Key key.This) = start.Context
+start_of _ = start.Other
 
 -- what may continue a primary: what follows a name, or a CONSTITUENTS
 abbrev pub follows_primary : TokenKind → Bool

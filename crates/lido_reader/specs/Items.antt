@@ -10,6 +10,7 @@ use Rattle.lido_base.specs.declared.kinds.Kind.TheVariants as side
 use Rattle.lido_base.specs.declared.value.ValueType.{ValueType}
 use Rattle.lido_base.specs.declared.value.ValueType.TheVariants as ty
 use Rattle.lido_lexer.specs.Seen.{Sees, Signs, Keys}
+use Rattle.lido_lexer.specs.declared.keyword.Keyword.{Keyword}
 use Rattle.lido_lexer.specs.declared.keyword.Keyword.TheVariants as key
 use Rattle.lido_lexer.specs.declared.sign.Sign.TheVariants as sign
 use Rattle.lido_lexer.specs.declared.token.Token.{Token}
@@ -232,6 +233,26 @@ module _ (One : ℕ → List Token → Comp × ℕ → List Token → Type 0) wh
   abbrev pub IsSymbol : ℕ → List Token → SymbolItem × ℕ → List Token → Type 0
   IsSymbol n = Then IsSymbolHead (λ head. Then IsName (λ first. IsAbout head first n))
 
+-- the words that begin items
+abbrev pub is_item_word : Keyword → Bool
+is_item_word key.Rule = true
+is_item_word key.Class = true
+is_item_word key.Symbol = true
+is_item_word key.Attr = true
+is_item_word key.Term = true
+is_item_word key.Chain = true
+is_item_word _ = false
+
+abbrev pub begins_item_kind : TokenKind → Bool
+begins_item_kind (kind.Key word) = is_item_word word
+begins_item_kind _ = false
+
+abbrev pub begins_item : Token → Bool
+begins_item t = begins_item_kind t.what
+
+abbrev pub no_items : Spec
+no_items = record { rules = []; symbols = []; attrs = []; terms = []; chains = [] }
+
 -- `called` is what a rule without a name is called, by its number among the rules, from 1.
 module _ (called : ℕ → StrId) (One : ℕ → List Token → Comp × ℕ → List Token → Type 0) where
   -- "RULE" [name] ":" name ( "::=" {element} | "LISTOF" name {"|" name} ) body
@@ -241,17 +262,33 @@ module _ (called : ℕ → StrId) (One : ℕ → List Token → Comp × ℕ → 
 
   -- ---- the whole
 
-  -- One more item, behind those that are found with the number of the next computation.
-  pub data IsFurtherItem (found : Spec × ℕ) : List Token → Spec × ℕ → List Token → Type 0 where
-    rule : {x : Spec × ℕ} {ts us : List Token} → Then (IsRule (length found.0.rules + 1) found.1) (λ item. Done (record found.0 { rules = found.0.rules ++ item.0 ∷ [] }, item.1)) ts x us
-        → IsFurtherItem found ts x us
-    symbol : {x : Spec × ℕ} {ts us : List Token} → Then (IsSymbol One found.1) (λ item. Done (record found.0 { symbols = found.0.symbols ++ item.0 ∷ [] }, item.1)) ts x us → IsFurtherItem found ts x us
-    attr : {x : Spec × ℕ} {ts us : List Token} → Then IsAttr (λ all. Done (record found.0 { attrs = found.0.attrs ++ all }, found.1)) ts x us → IsFurtherItem found ts x us
-    term : {x : Spec × ℕ} {ts us : List Token} → Then IsTerm (λ all. Done (record found.0 { terms = found.0.terms ++ all }, found.1)) ts x us → IsFurtherItem found ts x us
-    chain : {x : Spec × ℕ} {ts us : List Token} → Then IsChain (λ all. Done (record found.0 { chains = found.0.chains ++ all }, found.1)) ts x us → IsFurtherItem found ts x us
+  -- Items behind those that are found, which have the number of the next computation with them: a rule,
+  abbrev pub IsRuleItem : Spec × ℕ → List Token → Spec × ℕ → List Token → Type 0
+  IsRuleItem found = Then (IsRule (length found.0.rules + 1) found.1) (λ item. Done (record found.0 { rules = found.0.rules ++ item.0 ∷ [] }, item.1))
 
-  abbrev pub no_items : Spec
-  no_items = record { rules = []; symbols = []; attrs = []; terms = []; chains = [] }
+  -- a symbol's item,
+  abbrev pub IsSymbolItem : Spec × ℕ → List Token → Spec × ℕ → List Token → Type 0
+  IsSymbolItem found = Then (IsSymbol One found.1) (λ item. Done (record found.0 { symbols = found.0.symbols ++ item.0 ∷ [] }, item.1))
+
+  -- declarations of attributes,
+  abbrev pub IsAttrItem : Spec × ℕ → List Token → Spec × ℕ → List Token → Type 0
+  IsAttrItem found = Then IsAttr (λ all. Done (record found.0 { attrs = found.0.attrs ++ all }, found.1))
+
+  -- of terminals,
+  abbrev pub IsTermItem : Spec × ℕ → List Token → Spec × ℕ → List Token → Type 0
+  IsTermItem found = Then IsTerm (λ all. Done (record found.0 { terms = found.0.terms ++ all }, found.1))
+
+  -- and of chains
+  abbrev pub IsChainItem : Spec × ℕ → List Token → Spec × ℕ → List Token → Type 0
+  IsChainItem found = Then IsChain (λ all. Done (record found.0 { chains = found.0.chains ++ all }, found.1))
+
+  -- one more item
+  pub data IsFurtherItem (found : Spec × ℕ) : List Token → Spec × ℕ → List Token → Type 0 where
+    rule : {x : Spec × ℕ} {ts us : List Token} → IsRuleItem found ts x us → IsFurtherItem found ts x us
+    symbol : {x : Spec × ℕ} {ts us : List Token} → IsSymbolItem found ts x us → IsFurtherItem found ts x us
+    attr : {x : Spec × ℕ} {ts us : List Token} → IsAttrItem found ts x us → IsFurtherItem found ts x us
+    term : {x : Spec × ℕ} {ts us : List Token} → IsTermItem found ts x us → IsFurtherItem found ts x us
+    chain : {x : Spec × ℕ} {ts us : List Token} → IsChainItem found ts x us → IsFurtherItem found ts x us
 
   -- { rule | symbol | attr | term | chain }
   abbrev pub IsSpec : List Token → Spec → List Token → Type 0

@@ -46,10 +46,19 @@ abbrev pub in_reads : Keyword → Option Place
 in_reads key.Tail = Some place.Tail
 in_reads word = in_targets word
 
+-- a word of these, with where it begins
+pub data IsContext (words : Keyword → Option Place) : List Token → ℕ × Place → List Token → Type 0 where
+  context : {t : Token} {us : List Token} {w : Keyword} {p : Place} → t.what ≡ kind.Key w → words w ≡ Some p → IsContext words (t ∷ us) (t.from, p) us
+
 -- name ["[" int "]"], or one of these words; with where it begins
 pub data IsPlace (words : Keyword → Option Place) : List Token → ℕ × Place → List Token → Type 0 where
-  named : {ts us vs : List Token} {n : Name} {i : Option ℤ} → IsName ts n us → IsIndex us i vs → IsPlace words ts (n.at, place.Named n i) vs
-  context : {t : Token} {us : List Token} {w : Keyword} {p : Place} → t.what ≡ kind.Key w → words w ≡ Some p → IsPlace words (t ∷ us) (t.from, p) us
+  named : {ts us : List Token} {x : ℕ × Place} → Then IsName (λ n. Then IsIndex (λ i. Done (n.at, place.Named n i))) ts x us → IsPlace words ts x us
+  by_word : {ts us : List Token} {x : ℕ × Place} → IsContext words ts x us → IsPlace words ts x us
+
+-- the words of reads, or of targets
+abbrev pub words_of : Bool → Keyword → Option Place
+words_of true = in_reads
+words_of false = in_targets
 
 -- behind a place: "." name
 abbrev pub IsReadOf : ℕ × Place → List Token → Expr → List Token → Type 0
@@ -91,6 +100,28 @@ AreConstituentsOf at number = Then (AreListed IsPair) (λ pairs. Then IsShield (
 -- cons, with its number
 abbrev pub AreConstituents : ℕ → List Token → Cons → List Token → Type 0
 AreConstituents number = Then (Keys key.Constituents) (λ t. AreConstituentsOf t.from number)
+
+-- an index, SHIELD and WITH may be left out: these tokens continue what they would follow
+abbrev pub is_bracket_kind : TokenKind → Bool
+is_bracket_kind (kind.Sign sign.BracketOpen) = true
+is_bracket_kind _ = false
+
+abbrev pub is_bracket : Token → Bool
+is_bracket t = is_bracket_kind t.what
+
+abbrev pub is_shield_kind : TokenKind → Bool
+is_shield_kind (kind.Key key.Shield) = true
+is_shield_kind _ = false
+
+abbrev pub is_shield : Token → Bool
+is_shield t = is_shield_kind t.what
+
+abbrev pub is_with_kind : TokenKind → Bool
+is_with_kind (kind.Key key.With) = true
+is_with_kind _ = false
+
+abbrev pub is_with : Token → Bool
+is_with t = is_with_kind t.what
 
 -- what may continue a CONSTITUENTS
 abbrev pub is_option_kind : TokenKind → Bool

@@ -1,10 +1,9 @@
 //! Computations.
-ghost use Rattle.std.specs.Prelude.{◌≡◌, ◌+◌, ◌<◌, ◌≤◌, List, ℕ, length, IfOk};
+ghost use Rattle.std.specs.Prelude.{◌≡◌, ◌+◌, ◌<◌, ◌≤◌, length, IfOk};
 ghost use Rattle.lido_base.specs.Reading.{nothing};
 ghost use Rattle.lido_lexer.specs.Lexing.{Gains};
 ghost use Rattle.lido_reader.specs.Computations.{IsComputation};
-ghost use Rattle.lido_reader.specs.Phrases.{ReadsSeen};
-ghost use Rattle.lido_reader.specs.Specification.{IsLater};
+ghost use Rattle.lido_reader.specs.Parts.{ReadsWith};
 
 use crate::ReadSpecFault;
 use lido_base::Strings;
@@ -20,7 +19,7 @@ pub(crate) fn computation<'a>(
     strings: &mut Strings,
     number: u32,
 ) -> Result<((Comp, u32), &'a [Token]), ReadSpecFault>
-    ensures reads { (texts : List (List ℕ)) → IsLater strings.new texts → ReadsSeen (λ one. one) (IsComputation texts number) nothing end tokens.now result }
+    ensures reads { ReadsWith (λ one. one) (λ texts. IsComputation texts number) nothing strings.new end tokens.now result }
     ensures shorter { IfOk result (λ x. length x.1.now < length tokens.now) }
     ensures kept { Gains strings.old strings.new }
     ensures few { length strings.new ≤ length strings.old + length tokens.now }

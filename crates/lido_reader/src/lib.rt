@@ -6,10 +6,15 @@ mod computations;
 mod counts;
 mod declarations;
 mod fault;
+mod items;
 pub mod names;
+mod operators;
+mod places;
 mod right_sides;
 mod rule_names;
 mod rules;
+mod specification;
 mod symbols;
 
 pub use fault::ReadSpecFault;
+pub use specification::read_spec;

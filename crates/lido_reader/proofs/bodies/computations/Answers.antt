@@ -28,14 +28,14 @@ returns-in_err-comp-clause-reads c = λ texts later. let p = err_from_is_err_and
     repeat_stuck (computation_steps texts) c.args.end (c.is_not_end.ensures.0 c.loop-alloc-test.true)
     (c.loop-alloc.invariant.leads texts (later_of c.loop-alloc.strings c.computation.new.strings texts c.computation.ensures.kept later)) c.in_err-comp.field-0.0
     (stuck_at c.args.end (leads_self (IsFurtherComputation (IsComputation texts) found) nothing c.loop-alloc.rest.now) (λ comp. then_finish semicolon_completable (λ semicolon. finish))
-    c.in_err-comp.field-0.0 (c.in_err-comp.ensures.reads texts later)))
+    c.in_err-comp.field-0.0 (c.in_err-comp.ensures.reads texts later.gains later.distinct)))
 
 pub returns-in_err-behind_semicolon-clause-reads : goal.returns-in_err-behind_semicolon-clause-reads
 returns-in_err-behind_semicolon-clause-reads c = λ texts later. let p = err_from_is_err_and c.from_residual-in_err-behind_semicolon.result c.from_residual-in_err-behind_semicolon.ensures.1 in rw (p.1, p.2)
     (let found : List Comp × ℕ = (c.loop-alloc.all.items, c.loop-alloc.next) in
     repeat_stuck (computation_steps texts) c.args.end (c.is_not_end.ensures.0 c.loop-alloc-test.true)
     (c.loop-alloc.invariant.leads texts (later_of c.loop-alloc.strings c.computation.new.strings texts c.computation.ensures.kept later)) c.in_err-behind_semicolon.field-0.0
-    (stuck_at c.args.end (go_on (leads_self (IsFurtherComputation (IsComputation texts) found) nothing c.loop-alloc.rest.now) (c.in_ok-comp.ensures.reads texts later)) (λ semicolon. finish)
+    (stuck_at c.args.end (go_on (leads_self (IsFurtherComputation (IsComputation texts) found) nothing c.loop-alloc.rest.now) (c.in_ok-comp.ensures.reads texts later.gains later.distinct)) (λ semicolon. finish)
     c.in_err-behind_semicolon.field-0.0 c.in_err-behind_semicolon.ensures.reads))
 
 pub loop-alloc-preserved : goal.loop-alloc-preserved
@@ -44,7 +44,7 @@ loop-alloc-preserved c =
       leads = λ texts later. rw items (let found : List Comp × ℕ = (c.loop-alloc.all.items, c.loop-alloc.next) in
           repeat_found (computation_steps texts) (c.is_not_end.ensures.0 c.loop-alloc-test.true)
           (c.loop-alloc.invariant.leads texts (later_of c.loop-alloc.strings c.computation.new.strings texts c.computation.ensures.kept later))
-          (read_whole (go_on (go_on (leads_self (IsFurtherComputation (IsComputation texts) found) nothing c.loop-alloc.rest.now) (c.in_ok-comp.ensures.reads texts later)) c.in_ok-behind_semicolon.ensures.reads)));
+          (read_whole (go_on (go_on (leads_self (IsFurtherComputation (IsComputation texts) found) nothing c.loop-alloc.rest.now) (c.in_ok-comp.ensures.reads texts later.gains later.distinct)) c.in_ok-behind_semicolon.ensures.reads)));
       kept = gains_more c.loop-alloc.invariant.kept c.computation.ensures.kept;
       each = grind (arith, common_steps, c.in_ok-comp.ensures.each, c.in_ok-behind_semicolon.ensures.shorter, c.loop-alloc.invariant.each);
       no_longer = grind (arith, common_steps);

@@ -1,5 +1,3 @@
-use Rattle.std.specs.Prelude.{ℕ, List, refl}
-use Rattle.lido_base.specs.Reading.{nothing}
 use Rattle.lido_reader.specs.Items.{called_in}
 use Rattle.lido_reader.proofs.NamesOfRulesLemmas.{named, unnamed}
 use Rattle.lido_reader.proofs.rule_names.rule_name.Goals as goal

@@ -2,6 +2,7 @@
 #![tactic(auto)]
 
 mod counts;
+mod expressions;
 mod fault;
 pub mod names;
 mod operators;

@@ -664,6 +664,14 @@ module _ (texts : List (List ℕ)) where
   level_fails k j s ts bad d h r = fails (IsExpr texts (suc k) s) (continues (suc k)) (AreOperands texts k) (IsExpr texts k s) (continues k) (continues k) (level_stops k) ts ts bad (level_chosen k s ts h) (operands_completable k)
       (subst (λ z. Refuses (IsExpr texts z s) (continues z) ts bad) d r)
 
+  -- a refusal at a tight level is one at each looser level
+  lower_fails : (d k : ℕ) (s : Counts) (ts bad : List Token) → d + k ≤ unary_level → Refuses (IsExpr texts (d + k) s) (continues (d + k)) ts bad → Refuses (IsExpr texts k s) (continues k) ts bad
+  lower_fails zero k s ts bad h r = subst (λ z. Refuses (IsExpr texts z s) (continues z) ts bad) (omega arith) r
+  lower_fails (suc d) k s ts bad h r = lower_fails d k s ts bad (omega arith) (level_fails (d + k) (suc d + k) s ts bad (omega arith) (omega arith) r)
+
+  pub looser_fails : (k j : ℕ) (s : Counts) (ts bad : List Token) → k ≤ j → j ≤ unary_level → Refuses (IsExpr texts j s) (continues j) ts bad → Refuses (IsExpr texts k s) (continues k) ts bad
+  looser_fails k j s ts bad h g r = let same : j ≡ (j - k) + k = omega arith in lower_fails (j - k) k s ts bad (omega arith) (subst (λ z. Refuses (IsExpr texts z s) (continues z) ts bad) same r)
+
   -- no operator of the level comes next
   pub operands_end : (k : ℕ) (l : Expr × Counts) (ts : List Token) → ((t : Token) (us : List Token) (f : List ℕ) → ts ≡ t ∷ us → infix_of t.what ≡ Some (k, f) → ⊥) → Finds (AreOperands texts k l) (continues k) ts l ts
   operands_end k l ts none = empty_finds (AreOperands texts k l) (continues k) ts l (λ vs. grammar.no_operator) (λ vs m y ws q. go ts none vs y ws m q)

@@ -62,11 +62,16 @@ pub(crate) fn expression<'a>(
     ensures few { length strings.new ≤ length strings.old + length tokens.now }
     ensures left { IfOk result (λ x. length strings.new + length x.1.now ≤ length strings.old + length tokens.now) }
 {
-    if level == 6 {
-        return unary(alloc, counts, tokens, end, strings);
+    let ((mut tree, mut left), mut rest) = unary(alloc, counts, tokens, end, strings)?;
+    let mut at = 6;
+    while at > level {
+        at -= 1;
+        let ((whole, behind), after) = operands(alloc, at, tree, left, rest, end, strings)?;
+        tree = whole;
+        left = behind;
+        rest = after;
     }
-    let ((first, counts), rest) = expression(alloc, level + 1, counts, tokens, end, strings)?;
-    operands(alloc, level, first, counts, rest, end, strings)
+    Ok(((tree, left), rest))
 }
 
 /// The operators of a level behind their first operand, with their right operands. They group to the left.

@@ -13,6 +13,8 @@ use Rattle.lido_reader.specs.Phrases.{ReadsSeen, AreMore, AreSeparated, Done, Th
 use Rattle.lido_reader.specs.Places.{AreConstituentsOf, AreListed, IsContext, IsIncludingOf, IsIndex, IsInt, IsPair, IsPlace, IsRead, IsReadOf, IsShield, IsWith, IsWithOf, in_reads, in_targets, is_bracket, is_option, is_shield, is_with, words_of}
 use Rattle.lido_reader.proofs.PhrasesLemmas.{past, ends, never, refused_first, leads_self, then_completable, done_completable, sees_completable, name_completable, type_completable, done_stops, token_stops, same_wider, reads_by, plain_wider, widens, lead_at, lead_there, refuse_at, find_at}
 use Rattle.lido_reader.proofs.PlacesLemmas.{int_next, int_finds, int_refuses, int_completable, context_next, index_leads, index_ends, index_completable, word_finds, named_leads, sign_no_bracket, several_leads, single_leads, name_apart, pair_apart, pair_completable, listed_completable, separated_completable, optional_completable, close_no_comma, shield_leads, shield_ends, with_leads, with_ends, shield_stops, with_wider}
+use Rattle.lido_base.specs.Reading.{Finds}
+use Rattle.std.specs.Prelude.{◌-◌}
 use Rattle.std.specs.Prelude.{◌+◌, ◌<◌, ◌≤◌, ℕ, List, length, IsTrue, codes, slice_get, suc}
 use Rattle.lido_base.specs.Texts.{IsDistinctTexts}
 use Rattle.lido_lexer.specs.Lexing.{Gains}
@@ -26,7 +28,7 @@ use Rattle.lido_reader.specs.Parts.{AreNumbered, IsCalled, IsChoice, IsCounted, 
 use Rattle.lido_reader.specs.declared.counts.Counts.{Counts}
 use Rattle.lido_reader.specs.declared.operators.Start.TheVariants as start
 use Rattle.lido_reader.proofs.PhrasesLemmas.{no_memory, refused_by}
-use Rattle.lido_reader.proofs.ExpressionsLemmas.{function_finds, text_gained, any_expression, further_operands, operand_completable, level_reads, level_refusals, function_completable, option_wider, including_word, constituents_word, order_word, level_leads, level_fails, operands_end, operator_leads, operand_stops, operator_exhausted, prefix_leads, primary_leads, unary_completable, some_completable, prefix_exhausted, close_no_operator, comma_apart, close_no_list, some_leads, some_fails, further_leads, further_fails, further_ends, without_finds, arguments_lead, called_leads, called_exhausted, placed_leads, indexed_stops, indexed_completable, named_completable, dot_leads, bare_finds, null_leads, parenthesized_leads, choice_leads, order_leads, including_leads, constituents_leads, context_leads, word_leads, constant_finds, constant_refuses, other_refuses, end_refuses, counted_leads, counted_exhausted, primary_completable}
+use Rattle.lido_reader.proofs.ExpressionsLemmas.{looser_fails, function_finds, text_gained, any_expression, further_operands, operand_completable, level_reads, level_refusals, function_completable, option_wider, including_word, constituents_word, order_word, level_leads, level_fails, operands_end, operator_leads, operand_stops, operator_exhausted, prefix_leads, primary_leads, unary_completable, some_completable, prefix_exhausted, close_no_operator, comma_apart, close_no_list, some_leads, some_fails, further_leads, further_fails, further_ends, without_finds, arguments_lead, called_leads, called_exhausted, placed_leads, indexed_stops, indexed_completable, named_completable, dot_leads, bare_finds, null_leads, parenthesized_leads, choice_leads, order_leads, including_leads, constituents_leads, context_leads, word_leads, constant_finds, constant_refuses, other_refuses, end_refuses, counted_leads, counted_exhausted, primary_completable}
 use Rattle.lido_reader.proofs.expressions.+expression.Goals as goal
 
 pub parenthesized-returns-in_err-tree-clause-reads : goal.parenthesized-returns-in_err-tree-clause-reads
@@ -330,18 +332,50 @@ operands-returns-clause-reads t c =
     let h = rw (c.from_vec.ensures, items) at (c.operands.ensures.reads texts g d) in
     reads_by (λ e. e) _ _ _ _ _ _ _ l2 c.operands.result h)
 
-pub expression-returns-in_err-first-clause-reads : goal.expression-returns-in_err-first-clause-reads
-expression-returns-in_err-first-clause-reads t c =
+pub expression-returns-in_err-tree-clause-reads : goal.expression-returns-in_err-tree-clause-reads
+expression-returns-in_err-tree-clause-reads t c =
     let p = err_from_is_err_and c.from_residual.result c.from_residual.ensures.1 in rw (p.1, p.2) (λ texts g d.
-    refused_by _ _ _ _ _ _ _ (λ bad r. level_fails texts c.args.level (c.args.level + 1) c.args.counts c.args.tokens.now bad (omega arith) (omega arith) r) _ (c.in_err-first.ensures.reads texts g d))
+    refused_by _ _ _ _ _ _ _ (λ bad r. looser_fails texts c.args.level 6 c.args.counts c.args.tokens.now bad (omega arith) (omega arith) r) _ (c.in_err-tree.ensures.reads texts g d))
+
+pub expression-loop-at-init : goal.expression-loop-at-init
+expression-loop-at-init t c =
+    record {
+      found = λ texts g d. c.in_ok-tree.ensures.reads texts g d;
+      above = omega arith;
+      below = omega arith;
+      shorter = c.in_ok-tree.ensures.shorter;
+      kept = c.in_ok-tree.ensures.kept;
+      left = c.in_ok-tree.ensures.left;
+    }
+
+pub expression-returns-in_err-whole-clause-reads : goal.expression-returns-in_err-whole-clause-reads
+expression-returns-in_err-whole-clause-reads t c =
+    let p = err_from_is_err_and c.from_residual-in_err-whole.result c.from_residual-in_err-whole.ensures.1 in rw (p.1, p.2) (λ texts g d.
+    refused_by _ _ _ _ _ _ _ (λ bad r. looser_fails texts c.args.level (c.loop-at.at - 1) c.args.counts c.args.tokens.now bad (omega arith) (omega arith) ((level_leads texts (c.loop-at.at - 1) c.loop-at.at c.args.counts c.args.tokens.now _ _ (omega arith) (omega arith) (c.loop-at.invariant.found texts (gains_more c.in_err-whole.ensures.kept g) d)).refuses bad r)) _ (c.in_err-whole.ensures.reads texts g d))
+
+pub expression-returns-in_err-whole-clause-kept : goal.expression-returns-in_err-whole-clause-kept
+expression-returns-in_err-whole-clause-kept t c =
+    gains_more c.loop-at.invariant.kept c.in_err-whole.ensures.kept
+
+pub expression-loop-at-preserved : goal.expression-loop-at-preserved
+expression-loop-at-preserved t c =
+    record {
+      found = λ texts g d. (level_leads texts (c.loop-at.at - 1) c.loop-at.at c.args.counts c.args.tokens.now _ _ (omega arith) (omega arith) (c.loop-at.invariant.found texts (gains_more c.in_ok-whole.ensures.kept g) d)).finds _ _ (c.in_ok-whole.ensures.reads texts g d);
+      above = omega arith;
+      below = omega arith;
+      shorter = grind (arith, common_steps);
+      kept = gains_more c.loop-at.invariant.kept c.in_ok-whole.ensures.kept;
+      left = grind (arith, common_steps);
+    }
 
 pub expression-returns-clause-reads : goal.expression-returns-clause-reads
 expression-returns-clause-reads t c =
-    λ texts g d. reads_by (λ e. e) _ _ _ _ _ _ _ (level_leads texts c.args.level (c.args.level + 1) c.args.counts c.args.tokens.now _ _ (omega arith) (omega arith) (c.in_ok-first.ensures.reads texts (gains_more c.operands.ensures.kept g) d)) c.operands.result (c.operands.ensures.reads texts g d)
+    λ texts g d. let same : c.loop-at.at ≡ c.args.level = omega arith in
+    subst (λ z. Finds (IsExpr texts z c.args.counts) (continues z) c.args.tokens.now (c.loop-at.tree, c.loop-at.left) c.loop-at.rest.now) same (c.loop-at.invariant.found texts g d)
 
 pub expression-returns-clause-kept : goal.expression-returns-clause-kept
 expression-returns-clause-kept t c =
-    gains_more c.in_ok-first.ensures.kept c.operands.ensures.kept
+    c.loop-at.invariant.kept
 
 pub counted-returns-then-is_sign-clause-reads : goal.counted-returns-then-is_sign-clause-reads
 counted-returns-then-is_sign-clause-reads t c =

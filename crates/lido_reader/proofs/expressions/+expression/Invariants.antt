@@ -1,8 +1,8 @@
 use Rattle.std.proofs.Common.{length, ◌+◌, ◌*◌, ◌-◌, ◌<◌, ◌≤◌, ℕ, List}
-use Rattle.lido_base.specs.Reading.{Leads}
+use Rattle.lido_base.specs.Reading.{Finds, Leads}
 use Rattle.lido_base.specs.Texts.{IsDistinctTexts}
 use Rattle.lido_lexer.specs.Lexing.{Gains}
-use Rattle.lido_reader.specs.Expressions.{AreFurther, AreSome}
+use Rattle.lido_reader.specs.Expressions.{AreFurther, AreSome, IsExpr, continues}
 use Rattle.lido_reader.specs.Parts.{continues_list}
 use Rattle.lido_reader.proofs.expressions.+expression.Given as goal
 
@@ -49,3 +49,16 @@ invariant-some_expressions-loop-more l = record {
 
 abbrev pub decreases-some_expressions-loop-more : goal.decreases-some_expressions-loop-more
 decreases-some_expressions-loop-more l = length l.rest
+
+abbrev pub invariant-expression-loop-at : goal.invariant-expression-loop-at
+invariant-expression-loop-at l = record {
+  found : (texts : List (List ℕ)) → Gains l.strings texts → IsDistinctTexts texts → Finds (IsExpr texts l.at l.fn.counts) (continues l.at) l.tokens (l.tree, l.left) l.rest;
+  above : l.level ≤ l.at;
+  below : l.at ≤ 6;
+  shorter : length l.rest < length l.tokens;
+  kept : Gains l.fn.strings l.strings;
+  left : length l.strings + length l.rest ≤ length l.fn.strings + length l.tokens;
+}
+
+abbrev pub decreases-expression-loop-at : goal.decreases-expression-loop-at
+decreases-expression-loop-at l = l.at

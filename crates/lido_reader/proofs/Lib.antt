@@ -1,3 +1,4 @@
 pub mod PhrasesLemmas
 pub mod PlacesLemmas
 pub mod ExpressionsLemmas
+pub mod ComputationsLemmas

@@ -174,3 +174,150 @@ module _ (found : List Expr × ℕ) where
       go : (before : List Expr × ℕ) (vs : List Token) (y : List Expr × ℕ) (ws : List Token) → SameHead ts vs → AreMoreDependencies before vs y ws → ((y ≡ before) × (ws ≡ vs)) ⊎ GoesOn continues_dependencies ws
       go before vs y ws m grammar.last = inl (refl, refl)
       go before vs y ws m (grammar.further {us = a} {t = t} p q r) = let o = same_token (kind.Sign sign.Comma) ts vs a t m p in absurd (none t o.0 o.1)
+
+-- ---- one dependency, or several in parentheses
+
+-- no dependency is begun by a parenthesis
+dependency_apart : (s : ℕ) (us vs ws : List Token) (x : Expr × ℕ) (t : Token) → IsDependency s us x vs → Signs sign.ParenOpen us t ws → ⊥
+dependency_apart s us vs ws x t d n = go us vs ws x t d n
+  where
+    by_name : (us a ws : List Token) (m : Name) (t : Token) → IsName us m a → Signs sign.ParenOpen us t ws → ⊥
+    by_name us a ws m t (word d) (token f) = cc
+
+    by_context : (us a ws : List Token) (q : ℕ × Place) (t : Token) → IsContext in_reads us q a → Signs sign.ParenOpen us t ws → ⊥
+    by_context us a ws q t (context d f) (token g) = cc
+
+    by_place : (us a ws : List Token) (q : ℕ × Place) (t : Token) → IsPlace in_reads us q a → Signs sign.ParenOpen us t ws → ⊥
+    by_place us a ws q t (named h) n = by_name us h.between ws h.value t h.first n
+    by_place us a ws q t (by_word h) n = by_context us a ws q t h n
+
+    by_key : (k : Keyword) (us a ws : List Token) (u t : Token) → Keys k us u a → Signs sign.ParenOpen us t ws → ⊥
+    by_key k us a ws u t (token d) (token f) = cc
+
+    go : (us vs ws : List Token) (x : Expr × ℕ) (t : Token) → IsDependency s us x vs → Signs sign.ParenOpen us t ws → ⊥
+    go us vs ws x t (grammar.read h) n = by_place us h.between ws h.value t h.first n
+    go us vs ws x t (grammar.including h) n = by_key key.Including us h.between ws h.value t h.first n
+    go us vs ws x t (grammar.constituents h) n = by_key key.Constituents us h.between ws h.value t h.first n
+
+module _ (s : ℕ) where
+  abbrev Closing : List Token → List Expr × ℕ → List Token → Type 0
+  Closing = Then (AreSomeDependencies s) (λ found. Then (Signs sign.ParenClose) (λ closing. Done found))
+
+  several_from : (ts us vs ws : List Token) (t : Token) (all : List Expr × ℕ) → Signs sign.ParenOpen ts t ws → SameHead ts us → AreDependencies s us all vs → Then (Signs sign.ParenOpen) (λ opening. Closing) us all vs
+  several_from ts us vs ws t all n m (grammar.several h) = h
+  several_from ts us vs ws t all n m (grammar.single {e = e} h) = let q = same_lead (kind.Sign sign.ParenOpen) ts us ws t n m in absurd (dependency_apart s us vs q.0 e t h q.1)
+
+  pub several_lead : (ts us : List Token) (t : Token) → Signs sign.ParenOpen ts t us → Leads Closing is_option us (AreDependencies s) is_option ts
+  several_lead ts us t n = past (Signs sign.ParenOpen) nothing (λ opening. Closing) (AreDependencies s) is_option is_option (never is_option (λ opening. Closing)) ts ts us t
+      (chosen (Then (Signs sign.ParenOpen) (λ opening. Closing)) (AreDependencies s) is_option ts (λ us vs all h. grammar.several h) (λ us vs all m h. inl (several_from ts us vs _ t all n m h))) (sees_finds (kind.Sign sign.ParenOpen) nothing ts us t n)
+
+  abbrev Single : List Token → List Expr × ℕ → List Token → Type 0
+  Single = Then (IsDependency s) (λ x. Done (x.0 ∷ [], x.1))
+
+  single_from : (ts us vs : List Token) (all : List Expr × ℕ) → ((t : Token) (ws : List Token) → Signs sign.ParenOpen ts t ws → ⊥) → SameHead ts us → AreDependencies s us all vs → Single us all vs
+  single_from ts us vs all none m (grammar.single {e = e} h) = record { value = e; between = vs; first = h; rest = record { same = refl; behind = refl } }
+  single_from ts us vs all none m (grammar.several h) = let q = same_token (kind.Sign sign.ParenOpen) ts us h.between h.value m h.first in absurd (none h.value q.0 q.1)
+
+  single_to : (us vs : List Token) (all : List Expr × ℕ) → Single us all vs → AreDependencies s us all vs
+  single_to us vs all h = subst (λ z. AreDependencies s us z vs) (sym h.rest.same) (subst (λ z. AreDependencies s us (h.value.0 ∷ [], h.value.1) z) (sym h.rest.behind) (grammar.single h.first))
+
+  pub single_lead : (ts : List Token) → ((t : Token) (ws : List Token) → Signs sign.ParenOpen ts t ws → ⊥) → Leads Single is_option ts (AreDependencies s) is_option ts
+  single_lead ts none = chosen Single (AreDependencies s) is_option ts (λ us vs all h. single_to us vs all h) (λ us vs all m h. inl (single_from ts us vs all none m h))
+
+pub close_no_dependency : (t : Token) → t.what ≡ kind.Sign sign.ParenClose → IsTrue (continues_dependencies t) → ⊥
+close_no_dependency t d h = let no_dependency = rw d at h in cc
+
+-- ---- behind an expression
+
+pub after_wider : IsWider is_option continues_after
+after_wider [] h = h
+after_wider (u ∷ us) h = or_right (is_arrow_kind u.what) (is_option u) h
+
+arrow_continues : (t : Token) → t.what ≡ kind.Sign sign.Arrow → IsTrue (continues_after t)
+arrow_continues t d = rw d refl
+
+pub after_leads : (s : ℕ) (ts us : List Token) (t : Token) → Signs sign.Arrow ts t us → Leads (AreDependencies s) is_option us (AreAfter s) continues_after ts
+after_leads s ts us t n = leads_on (AreDependencies s) (AreDependencies s) (AreAfter s) is_option continues_after continues_after ts us us (widens (AreDependencies s) is_option continues_after us after_wider)
+    (optional_leads (kind.Sign sign.Arrow) (λ arrow. AreDependencies s) ([], s) continues_after arrow_continues ts us t n)
+
+pub after_ends : (s : ℕ) (ts : List Token) → ((t : Token) (us : List Token) → Signs sign.Arrow ts t us → ⊥) → Finds (AreAfter s) continues_after ts ([], s) ts
+after_ends s ts none = optional_ends (kind.Sign sign.Arrow) (λ arrow. AreDependencies s) ([], s) continues_after ts none
+
+-- ---- targets
+
+abbrev At_place : List Token → ℕ × Target → List Token → Type 0
+At_place = Then (IsPlace in_targets) (λ p. Then (Signs sign.Dot) (λ dot. Then IsName (λ a. Done (p.0, target.Attr p.1 a))))
+
+abbrev Of_chain : Token → List Token → ℕ × Target → List Token → Type 0
+Of_chain t = Then (Keys key.Head) (λ head. Then (Signs sign.Dot) (λ dot. Then IsName (λ c. Done (t.from, target.Start c))))
+
+chain_from : (ts us vs ws : List Token) (t : Token) (x : ℕ × Target) → Keys key.Chainstart ts t ws → SameHead ts us → IsTarget us x vs → Then (Keys key.Chainstart) Of_chain us x vs
+chain_from ts us vs ws t x n m (grammar.chain_start h) = h
+chain_from ts us vs ws t x n m (grammar.attribute h) = let q = same_lead (kind.Key key.Chainstart) ts us ws t n m in absurd (place_apart in_targets key.Chainstart us h.between q.0 h.value t refl h.first q.1)
+
+pub chain_leads : (ts us : List Token) (t : Token) → Keys key.Chainstart ts t us → Leads (Of_chain t) nothing us IsTarget nothing ts
+chain_leads ts us t n = past (Keys key.Chainstart) nothing Of_chain IsTarget nothing nothing (never nothing Of_chain) ts ts us t
+    (chosen (Then (Keys key.Chainstart) Of_chain) IsTarget nothing ts (λ us vs x h. grammar.chain_start h) (λ us vs x m h. inl (chain_from ts us vs _ t x n m h))) (sees_finds (kind.Key key.Chainstart) nothing ts us t n)
+
+place_from : (ts us vs : List Token) (x : ℕ × Target) → ((t : Token) (ws : List Token) → Keys key.Chainstart ts t ws → ⊥) → SameHead ts us → IsTarget us x vs → At_place us x vs
+place_from ts us vs x none m (grammar.attribute h) = h
+place_from ts us vs x none m (grammar.chain_start h) = let q = same_token (kind.Key key.Chainstart) ts us h.between h.value m h.first in absurd (none h.value q.0 q.1)
+
+pub place_leads : (ts : List Token) → ((t : Token) (ws : List Token) → Keys key.Chainstart ts t ws → ⊥) → Leads At_place nothing ts IsTarget nothing ts
+place_leads ts none = chosen At_place IsTarget nothing ts (λ us vs x h. grammar.attribute h) (λ us vs x m h. inl (place_from ts us vs x none m h))
+
+-- ---- computations
+
+pub value_wider : IsWider (continues 0) continues_computation
+value_wider [] h = h
+value_wider (u ∷ us) h = or_right (is_arrow_kind u.what) (continues 0 u) h
+
+pub option_continues : IsWider continues_after continues_computation
+option_continues [] h = h
+option_continues (u ∷ us) h = go (is_arrow_kind u.what) refl h
+  where
+    go : (b : Bool) → is_arrow_kind u.what ≡ b → IsTrue (b || is_option u) → IsTrue (is_arrow_kind u.what || continues 0 u)
+    go true d h = rw d refl
+    go false d h = rw d (follows_wider 0 (u ∷ us) (option_wider (u ∷ us) h))
+
+arrow_no_value : (us vs : List Token) (t : Token) → Signs sign.Arrow us t vs → GoesOn (continues 0) us → ⊥
+arrow_no_value us vs t (token d) h = let no_value = rw d at h in cc
+
+after_goes : (s : ℕ) (us vs : List Token) (x : List Expr × ℕ) → AreAfter s us x vs → GoesOn (continues 0) us → vs ≡ us
+after_goes s us vs x (absent d) h = refl
+after_goes s us vs x (present p) h = absurd (arrow_no_value us p.between p.value p.first h)
+
+-- behind an expression stands an arrow or nothing
+pub value_stops : (f : Expr × Counts → List Expr × ℕ → Comp × ℕ) → Stops (continues 0) continues_computation (λ value. Then (AreAfter value.1.number) (λ after. Done (f value after)))
+value_stops f a us vs x n h = subst (GoesOn continues_computation) (sym (n.rest.behind ∙ after_goes a.1.number us n.between n.value n.first h)) (value_wider us h)
+
+pub close_no_value : (t : Token) → t.what ≡ kind.Sign sign.ParenClose → IsTrue (continues 0 t) → ⊥
+close_no_value t d h = let no_value = rw d at h in cc
+
+module _ (texts : List (List ℕ)) (number : ℕ) where
+  abbrev Assigned : List Token → Comp × ℕ → List Token → Type 0
+  Assigned = Then IsTarget (λ t. Then (Signs sign.Equal) (λ equal. Then (IsValue texts number) (λ value. Then (AreAfter value.1.number) (λ after.
+      Done (record { at = t.0; number = number; target = t.1; value = value.0; after = after.0 }, after.1)))))
+
+  abbrev Put_out : Token → List Token → Comp × ℕ → List Token → Type 0
+  Put_out t = Then (Signs sign.ParenOpen) (λ opening. Then (IsValue texts number) (λ value. Then (Signs sign.ParenClose) (λ closing. Then (AreAfter value.1.number) (λ after.
+      Done (record { at = t.from; number = number; target = target.Out; value = value.0; after = after.0 }, after.1)))))
+
+  target_apart : (us vs ws : List Token) (x : ℕ × Target) (t : Token) → IsTarget us x vs → Keys key.PtgOut us t ws → ⊥
+  target_apart us vs ws x t (grammar.attribute h) n = place_apart in_targets key.PtgOut us h.between ws h.value t refl h.first n
+  target_apart us vs ws x t (grammar.chain_start h) n = keys_apart key.Chainstart key.PtgOut us h.between ws h.value t (λ d. cc) h.first n
+
+  output_from : (ts us vs ws : List Token) (t : Token) (x : Comp × ℕ) → Keys key.PtgOut ts t ws → SameHead ts us → IsComputation texts number us x vs → Then (Keys key.PtgOut) Put_out us x vs
+  output_from ts us vs ws t x n m (grammar.output h) = h
+  output_from ts us vs ws t x n m (grammar.assignment h) = let q = same_lead (kind.Key key.PtgOut) ts us ws t n m in absurd (target_apart us h.between q.0 h.value t h.first q.1)
+
+  pub output_leads : (ts us : List Token) (t : Token) → Keys key.PtgOut ts t us → Leads (Put_out t) continues_computation us (IsComputation texts number) continues_computation ts
+  output_leads ts us t n = past (Keys key.PtgOut) nothing Put_out (IsComputation texts number) continues_computation continues_computation (never continues_computation Put_out) ts ts us t
+      (chosen (Then (Keys key.PtgOut) Put_out) (IsComputation texts number) continues_computation ts (λ us vs x h. grammar.output h) (λ us vs x m h. inl (output_from ts us vs _ t x n m h))) (sees_finds (kind.Key key.PtgOut) nothing ts us t n)
+
+  assigned_from : (ts us vs : List Token) (x : Comp × ℕ) → ((t : Token) (ws : List Token) → Keys key.PtgOut ts t ws → ⊥) → SameHead ts us → IsComputation texts number us x vs → Assigned us x vs
+  assigned_from ts us vs x none m (grammar.assignment h) = h
+  assigned_from ts us vs x none m (grammar.output h) = let q = same_token (kind.Key key.PtgOut) ts us h.between h.value m h.first in absurd (none h.value q.0 q.1)
+
+  pub assignment_leads : (ts : List Token) → ((t : Token) (ws : List Token) → Keys key.PtgOut ts t ws → ⊥) → Leads Assigned continues_computation ts (IsComputation texts number) continues_computation ts
+  assignment_leads ts none = chosen Assigned (IsComputation texts number) continues_computation ts (λ us vs x h. grammar.assignment h) (λ us vs x m h. inl (assigned_from ts us vs x none m h))

@@ -5,6 +5,7 @@ mod bodies;
 mod computations;
 mod counts;
 mod declarations;
+mod expressions;
 mod fault;
 mod items;
 pub mod names;

@@ -8,10 +8,10 @@ use Rattle.lido_syntax.specs.declared.spec.Comp.{Comp}
 use Rattle.lido_reader.specs.Computations.{IsComputation}
 use Rattle.lido_reader.specs.Items.{IsFurtherComputation, Repeats, is_not_end}
 use Rattle.lido_reader.proofs.PhrasesLemmas.{leads_self}
-use Rattle.lido_reader.proofs.PartsLemmas.{finish, then_finish, go_on, stuck_at, read_whole, repeat_found, repeat_stuck, repeat_ends}
+use Rattle.lido_reader.proofs.PartsLemmas.{finish, then_finish, go_on, go_past, stuck_at, stuck_in, read_whole, repeat_found, repeat_stuck, repeat_ends}
 use Rattle.lido_reader.proofs.DeclarationsLemmas.{semicolon_completable}
 use Rattle.lido_reader.proofs.TextsLemmas.{later_of}
-use Rattle.lido_reader.proofs.BodiesLemmas.{computation_steps}
+use Rattle.lido_reader.proofs.BodiesLemmas.{computation_steps, semicolon_computations}
 use Rattle.lido_reader.proofs.bodies.computations.Goals as goal
 
 pub loop-alloc-init : goal.loop-alloc-init
@@ -27,7 +27,7 @@ returns-in_err-comp-clause-reads c = λ texts later. let p = err_from_is_err_and
     (let found : List Comp × ℕ = (c.loop-alloc.all.items, c.loop-alloc.next) in
     repeat_stuck (computation_steps texts) c.args.end (c.is_not_end.ensures.0 c.loop-alloc-test.true)
     (c.loop-alloc.invariant.leads texts (later_of c.loop-alloc.strings c.computation.new.strings texts c.computation.ensures.kept later)) c.in_err-comp.field-0.0
-    (stuck_at c.args.end (leads_self (IsFurtherComputation (IsComputation texts) found) nothing c.loop-alloc.rest.now) (λ comp. then_finish semicolon_completable (λ semicolon. finish))
+    (stuck_in c.args.end (semicolon_computations _ _) (leads_self (IsFurtherComputation (IsComputation texts) found) nothing c.loop-alloc.rest.now) (λ comp. then_finish semicolon_completable (λ semicolon. finish))
     c.in_err-comp.field-0.0 (c.in_err-comp.ensures.reads texts later.gains later.distinct)))
 
 pub returns-in_err-behind_semicolon-clause-reads : goal.returns-in_err-behind_semicolon-clause-reads
@@ -35,7 +35,7 @@ returns-in_err-behind_semicolon-clause-reads c = λ texts later. let p = err_fro
     (let found : List Comp × ℕ = (c.loop-alloc.all.items, c.loop-alloc.next) in
     repeat_stuck (computation_steps texts) c.args.end (c.is_not_end.ensures.0 c.loop-alloc-test.true)
     (c.loop-alloc.invariant.leads texts (later_of c.loop-alloc.strings c.computation.new.strings texts c.computation.ensures.kept later)) c.in_err-behind_semicolon.field-0.0
-    (stuck_at c.args.end (go_on (leads_self (IsFurtherComputation (IsComputation texts) found) nothing c.loop-alloc.rest.now) (c.in_ok-comp.ensures.reads texts later.gains later.distinct)) (λ semicolon. finish)
+    (stuck_at c.args.end (go_past (semicolon_computations _ _) (leads_self (IsFurtherComputation (IsComputation texts) found) nothing c.loop-alloc.rest.now) (c.in_ok-comp.ensures.reads texts later.gains later.distinct)) (λ semicolon. finish)
     c.in_err-behind_semicolon.field-0.0 c.in_err-behind_semicolon.ensures.reads))
 
 pub loop-alloc-preserved : goal.loop-alloc-preserved
@@ -44,9 +44,9 @@ loop-alloc-preserved c =
       leads = λ texts later. rw items (let found : List Comp × ℕ = (c.loop-alloc.all.items, c.loop-alloc.next) in
           repeat_found (computation_steps texts) (c.is_not_end.ensures.0 c.loop-alloc-test.true)
           (c.loop-alloc.invariant.leads texts (later_of c.loop-alloc.strings c.computation.new.strings texts c.computation.ensures.kept later))
-          (read_whole (go_on (go_on (leads_self (IsFurtherComputation (IsComputation texts) found) nothing c.loop-alloc.rest.now) (c.in_ok-comp.ensures.reads texts later.gains later.distinct)) c.in_ok-behind_semicolon.ensures.reads)));
+          (read_whole (go_on (go_past (semicolon_computations _ _) (leads_self (IsFurtherComputation (IsComputation texts) found) nothing c.loop-alloc.rest.now) (c.in_ok-comp.ensures.reads texts later.gains later.distinct)) c.in_ok-behind_semicolon.ensures.reads)));
       kept = gains_more c.loop-alloc.invariant.kept c.computation.ensures.kept;
-      each = grind (arith, common_steps, c.in_ok-comp.ensures.each, c.in_ok-behind_semicolon.ensures.shorter, c.loop-alloc.invariant.each);
+      each = grind (arith, common_steps, c.in_ok-comp.ensures.left, c.in_ok-behind_semicolon.ensures.shorter, c.loop-alloc.invariant.each);
       no_longer = grind (arith, common_steps);
     }
 

@@ -8,7 +8,7 @@ mod declarations;
 mod expressions;
 mod fault;
 mod items;
-pub mod names;
+mod names;
 mod operators;
 mod places;
 mod right_sides;

@@ -14,11 +14,20 @@ use std::time::Instant;
 const CASES: [(&[u8], &[u8]); 72] = [
     (b"", b""),
     (b"RULE r: X ::= A 'b' C END;", b"R0 r X=A 'b' C ; "),
-    (b"RULE : X ::= END; RULE : Y ::= X END;", b"R0 rule_1 X=; R18 rule_2 Y=X ; "),
-    (b"RULE a: X ::= END; RULE: Y LISTOF X | Z | X END;", b"R0 a X=; R19 rule_2 Y~X Z X ; "),
+    (
+        b"RULE : X ::= END; RULE : Y ::= X END;",
+        b"R0 rule_1 X=; R18 rule_2 Y=X ; ",
+    ),
+    (
+        b"RULE a: X ::= END; RULE: Y LISTOF X | Z | X END;",
+        b"R0 a X=; R19 rule_2 Y~X Z X ; ",
+    ),
     (b"RULE r: X ::= A COMPUTE END;", b"R0 r X=A ; "),
     (b"ATTR a, b: int SYNT, c: string;", b"Aa:iS Ab:iS Ac:s- "),
-    (b"ATTR x: PTGNode INH, y: VOID, z: bool SYNT;", b"Ax:tI Ay:v- Az:bS "),
+    (
+        b"ATTR x: PTGNode INH, y: VOID, z: bool SYNT;",
+        b"Ax:tI Ay:v- Az:bS ",
+    ),
     (b"TERM N: int; TERM M, K: string;", b"TN:i TM:s TK:s "),
     (b"CHAIN c, d: int; CHAIN e: bool;", b"Hc:i Hd:i He:b "),
     (b"SYMBOL X: a: int SYNT, b: string;", b"S0 X <:a:iS b:s- ; "),
@@ -76,9 +85,18 @@ const CASES: [(&[u8], &[u8]); 72] = [
     (b"END;", b"!0"),
     (b"x", b"!0"),
     (b"TERM N: int; ;", b"!13"),
-    (b"RULE r: X ::= A COMPUTE X.a = 1; X.b = CONSTITUENTS A.a; X.c = 2; END; RULE: Y ::= X COMPUTE Y.a = X.a; END;", b"R0 r X=A #0 #1 #3 ; R71 rule_2 Y=X #4 ; "),
-    (b"RULE r: X ::= COMPUTE PTGOut(1); END; SYMBOL Y COMPUTE SYNT.a = 1; END;", b"R0 r X=#0 ; S38 Y <:#1 ; "),
-    (b"SYMBOL X COMPUTE SYNT.a = 1; INH.b = 2 + 3; END;", b"S0 X <:#0 #1 ; "),
+    (
+        b"RULE r: X ::= A COMPUTE X.a = 1; X.b = CONSTITUENTS A.a; X.c = 2; END; RULE: Y ::= X COMPUTE Y.a = X.a; END;",
+        b"R0 r X=A #0 #1 #3 ; R71 rule_2 Y=X #4 ; ",
+    ),
+    (
+        b"RULE r: X ::= COMPUTE PTGOut(1); END; SYMBOL Y COMPUTE SYNT.a = 1; END;",
+        b"R0 r X=#0 ; S38 Y <:#1 ; ",
+    ),
+    (
+        b"SYMBOL X COMPUTE SYNT.a = 1; INH.b = 2 + 3; END;",
+        b"S0 X <:#0 #1 ; ",
+    ),
     (b"SYMBOL X COMPUTE ;", b"!17"),
     (b"SYMBOL X COMPUTE TAIL.a = 1; END;", b"!17"),
     (b"SYMBOL X COMPUTE SYNT.a = 1 END;", b"!28"),

@@ -1,10 +1,11 @@
 -- Bodies: computations one behind the other.
-use Rattle.std.specs.Prelude.{◌≡◌, ◌↔◌, ℕ, Bool, true, false, not, IsTrue, List, [], ◌∷◌, Some, refl}
+use Rattle.std.specs.Prelude.{◌≡◌, ◌↔◌, ℕ, Bool, true, false, not, ◌||◌, IsTrue, List, [], ◌∷◌, Some, refl}
 use Rattle.std.proofs.Common.{sym, subst}
 use Rattle.lido_base.specs.Reading.{GoesOn, Leads, Finds, nothing}
-use Rattle.lido_lexer.specs.Seen.{Sees, token, Keys}
+use Rattle.lido_lexer.specs.Seen.{Sees, token, Keys, Signs}
 use Rattle.lido_lexer.specs.declared.keyword.Keyword.{Keyword}
 use Rattle.lido_lexer.specs.declared.keyword.Keyword.TheVariants as key
+use Rattle.lido_lexer.specs.declared.sign.Sign.TheVariants as sign
 use Rattle.lido_lexer.specs.declared.token.Token.{Token}
 use Rattle.lido_lexer.specs.declared.token.TokenKind.{TokenKind}
 use Rattle.lido_lexer.specs.declared.token.TokenKind.TheVariants as kind
@@ -13,7 +14,8 @@ use Rattle.lido_syntax.specs.declared.spec.Place.{Place}
 use Rattle.lido_syntax.specs.declared.spec.Target.{Target}
 use Rattle.lido_reader.specs.Phrases.{Then, IsName, word}
 use Rattle.lido_reader.specs.Places.{absent, present, IsPlace, named, by_word, context, in_targets}
-use Rattle.lido_reader.specs.Computations.{IsTarget, attribute, chain_start, IsComputation, assignment, output}
+use Rattle.lido_reader.specs.Expressions.{infix_of, is_at_least, follows_primary}
+use Rattle.lido_reader.specs.Computations.{is_arrow_kind, continues_computation, IsTarget, attribute, chain_start, IsComputation, assignment, output}
 use Rattle.lido_reader.specs.Items.{AreComputations, IsBody, IsFurtherComputation, Repeats, is_not_end, is_not_end_kind}
 use Rattle.lido_reader.proofs.PhrasesLemmas.{Completable, Stops, sees_completable, sees_finds, sees_said, sees_some}
 use Rattle.lido_reader.proofs.PartsLemmas.{finish, then_finish, Steps, go_on, seen_goes, seen_stops, present_leads, absent_finds, optional_completable}
@@ -47,6 +49,13 @@ computation_steps texts = record {
   apart = λ t h g. cc;
   wider = λ t g. cc;
 }
+
+abbrev continues_kind : TokenKind → Bool
+continues_kind k = is_arrow_kind k || (is_at_least 0 (infix_of k) || follows_primary k)
+
+-- a semicolon continues no computation
+pub semicolon_computations : {X Y : Type 0} (Rest : Y → Token → List Token → X → List Token → Type 0) (c : Token → Bool) → Stops continues_computation c (λ comp. Then (Signs sign.Semicolon) (Rest comp))
+semicolon_computations Rest c = seen_stops (kind.Sign sign.Semicolon) continues_kind refl Rest c
 
 -- ---- what the code asks
 

@@ -1,8 +1,9 @@
 -- How the readers of expressions follow their parts.
 use Rattle.std.specs.Prelude.{◌≡◌, ℕ, ℤ, pos, zero, suc, ◌+◌, ◌-◌, ◌<◌, ◌≤◌, Bool, true, false, ◌||◌, IsTrue, nat_le, ◌⊎◌, List, [], ◌∷◌, ◌++◌, refl, Option, Some, None, slice_get, codes}
-use Rattle.std.proofs.Common.{sym, ◌∙◌, ap, subst, inl, inr, arith, leb-true, le-leb}
+use Rattle.std.proofs.Common.{sym, ◌∙◌, ap, subst, inl, inr, arith, leb-true, le-leb, append-nil}
 use Rattle.lido_base.specs.Reading.{SameHead, GoesOn, Finds, Refuses, Leads, nothing}
 use Rattle.lido_base.specs.Texts.{IsDistinctTexts}
+use Rattle.lido_base.specs.declared.ids.StrId.{StrId}
 use Rattle.lido_base.proofs.ReadingLemmas.{empty_finds, refuses_here, leads_on, led_finds, led_refuses}
 use Rattle.lido_base.proofs.TextsLemmas.{same_place}
 use Rattle.lido_lexer.specs.Seen.{Sees, token, Signs}
@@ -18,17 +19,19 @@ use Rattle.lido_syntax.specs.declared.spec.Place.{Place}
 use Rattle.lido_syntax.specs.declared.spec.Place.TheVariants as place
 use Rattle.lido_syntax.specs.declared.spec.Expr.{Expr}
 use Rattle.lido_syntax.specs.declared.spec.Expr.TheVariants as expr
-use Rattle.lido_reader.specs.Phrases.{Done, Then, IsName, word, is_comma}
-use Rattle.lido_reader.specs.Places.{absent, present, IsIndex, IsRead, IsReadOf, IsPlace, named, by_word, IsContext, context, in_reads, IsIncluding, IsIncludingOf, AreConstituents, AreConstituentsOf, is_bracket, is_bracket_kind}
+use Rattle.lido_reader.specs.Phrases.{Done, Then, IsName, word, is_comma, is_comma_kind, RefusesAt}
+use Rattle.lido_reader.specs.Places.{Optional, absent, present, IsIndex, IsRead, IsReadOf, IsPlace, named, by_word, IsContext, context, in_reads, in_targets, IsIncluding, IsIncludingOf, AreConstituents, AreConstituentsOf, is_bracket, is_bracket_kind, is_option, is_option_kind}
 use Rattle.lido_reader.specs.Counting.{spent, numbered}
 use Rattle.lido_reader.specs.Expressions as grammar
 use Rattle.lido_reader.specs.Expressions.{prefix_of, infix_of, constant_of, start_of, follows_primary, is_at_least, continues, unary_level, IsCall, IsExpr, AreOperands, IsPrimary, AreArguments, AreSome, AreFurther}
 use Rattle.lido_reader.specs.Parts as parts
 use Rattle.lido_reader.specs.Parts.{follows, continues_list, Spending, HasFunction, IsNull, IsParenthesized, IsChoice, IsOrder, IsCounted, IsCalled, IsIndexed, IsNamed}
+use Rattle.lido_lexer.specs.Lexing.{Gains}
 use Rattle.lido_reader.specs.declared.counts.Counts.{Counts}
+use Rattle.lido_reader.specs.declared.fault.ReadSpecFault.{ReadSpecFault}
 use Rattle.lido_reader.specs.declared.operators.Start.{Start}
 use Rattle.lido_reader.specs.declared.operators.Start.TheVariants as start
-use Rattle.lido_reader.proofs.PhrasesLemmas.{Completable, Stops, never, past, chosen, sees_finds, IsWider, widens, ends, fails}
+use Rattle.lido_reader.proofs.PhrasesLemmas.{Completable, then_completable, done_completable, sees_completable, name_completable, Stops, never, past, chosen, leads_self, sees_finds, IsWider, widens, ends, fails}
 use Rattle.lido_reader.proofs.PlacesLemmas.{same_token, goes_on}
 
 -- ---- what continues
@@ -661,6 +664,14 @@ module _ (texts : List (List ℕ)) where
   level_fails k j s ts bad d h r = fails (IsExpr texts (suc k) s) (continues (suc k)) (AreOperands texts k) (IsExpr texts k s) (continues k) (continues k) (level_stops k) ts ts bad (level_chosen k s ts h) (operands_completable k)
       (subst (λ z. Refuses (IsExpr texts z s) (continues z) ts bad) d r)
 
+  -- a refusal at a tight level is one at each looser level
+  lower_fails : (d k : ℕ) (s : Counts) (ts bad : List Token) → d + k ≤ unary_level → Refuses (IsExpr texts (d + k) s) (continues (d + k)) ts bad → Refuses (IsExpr texts k s) (continues k) ts bad
+  lower_fails zero k s ts bad h r = subst (λ z. Refuses (IsExpr texts z s) (continues z) ts bad) (omega arith) r
+  lower_fails (suc d) k s ts bad h r = lower_fails d k s ts bad (omega arith) (level_fails (d + k) (suc d + k) s ts bad (omega arith) (omega arith) r)
+
+  pub looser_fails : (k j : ℕ) (s : Counts) (ts bad : List Token) → k ≤ j → j ≤ unary_level → Refuses (IsExpr texts j s) (continues j) ts bad → Refuses (IsExpr texts k s) (continues k) ts bad
+  looser_fails k j s ts bad h g r = let same : j ≡ (j - k) + k = omega arith in lower_fails (j - k) k s ts bad (omega arith) (subst (λ z. Refuses (IsExpr texts z s) (continues z) ts bad) same r)
+
   -- no operator of the level comes next
   pub operands_end : (k : ℕ) (l : Expr × Counts) (ts : List Token) → ((t : Token) (us : List Token) (f : List ℕ) → ts ≡ t ∷ us → infix_of t.what ≡ Some (k, f) → ⊥) → Finds (AreOperands texts k l) (continues k) ts l ts
   operands_end k l ts none = empty_finds (AreOperands texts k l) (continues k) ts l (λ vs. grammar.no_operator) (λ vs m y ws q. go ts none vs y ws m q)
@@ -777,3 +788,77 @@ module _ (texts : List (List ℕ)) where
       go k ts us vs x top same (grammar.operands d q i) = absurd (omega arith)
       go k ts us vs x top same (grammar.prefix {r = r} bt left i c) = let both : ◌≡◌ {A = Option Counts} (Some r) None = sym left ∙ none in cc
       go k ts us vs x top same (grammar.primary q) = absurd (led_by s t us vs x start.Other (prefix_start t.what f at) (subst (λ z. IsPrimary texts s z x vs) same q))
+
+  pub any_expression : (s : Counts) → Completable (IsExpr texts 0 s)
+  any_expression s = expr_completable s 0 (omega arith)
+
+  pub further_operands : (k : ℕ) (l : Expr × Counts) → Completable (AreOperands texts k l)
+  further_operands k l = operands_completable k l
+
+  pub operand_completable : (k j : ℕ) (s : Counts) → j ≡ suc k → k < unary_level → Completable (IsExpr texts (suc k) s)
+  operand_completable k j s d h = expr_completable s (suc k) (omega arith)
+
+  pub level_reads : (k j : ℕ) (s : Counts) (ts us : List Token) (x : Expr × Counts) → j ≡ suc k → Finds (IsExpr texts j s) (continues j) ts x us → Finds (IsExpr texts (suc k) s) (continues (suc k)) ts x us
+  level_reads k j s ts us x d f = subst (λ z. Finds (IsExpr texts z s) (continues z) ts x us) d f
+
+  pub level_refusals : (k j : ℕ) (s : Counts) (end_at : ℕ) (ts : List Token) (f : ReadSpecFault) → j ≡ suc k → RefusesAt (IsExpr texts j s) (continues j) end_at ts f → RefusesAt (IsExpr texts (suc k) s) (continues (suc k)) end_at ts f
+  level_refusals k j s end_at ts f d h = subst (λ z. RefusesAt (IsExpr texts z s) (continues z) end_at ts f) d h
+
+  pub function_completable : (f : List ℕ) (at : ℕ) (n : Name) → n.at ≡ at → slice_get texts n.id.0 ≡ Some f → Completable (HasFunction texts f at)
+  function_completable f at n d e = ([], n, (λ vs. record { place = d; text = e; behind = refl }))
+
+option_follows : (k : TokenKind) → IsTrue (is_option_kind k) → IsTrue (follows_primary k)
+option_follows (kind.Key key.Shield) h = refl
+option_follows (kind.Key key.With) h = refl
+option_follows (kind.Key _) h = cc
+option_follows (kind.Sign _) h = cc
+option_follows (kind.Word _) h = cc
+option_follows (kind.Int _) h = cc
+option_follows (kind.Str _) h = cc
+option_follows (kind.Literal _) h = cc
+
+pub option_wider : IsWider is_option follows
+option_wider [] h = h
+option_wider (u ∷ us) h = option_follows u.what h
+
+pub including_word : (k : TokenKind) → start_of k ≡ start.Including → k ≡ kind.Key key.Including
+including_word (kind.Key key.Including) d = refl
+including_word (kind.Key _) d = cc
+including_word (kind.Sign sign.ParenOpen) d = cc
+including_word (kind.Sign _) d = cc
+including_word (kind.Word _) d = cc
+including_word (kind.Int _) d = cc
+including_word (kind.Str _) d = cc
+including_word (kind.Literal _) d = cc
+
+pub constituents_word : (k : TokenKind) → start_of k ≡ start.Constituents → k ≡ kind.Key key.Constituents
+constituents_word (kind.Key key.Constituents) d = refl
+constituents_word (kind.Key _) d = cc
+constituents_word (kind.Sign sign.ParenOpen) d = cc
+constituents_word (kind.Sign _) d = cc
+constituents_word (kind.Word _) d = cc
+constituents_word (kind.Int _) d = cc
+constituents_word (kind.Str _) d = cc
+constituents_word (kind.Literal _) d = cc
+
+-- of the four kinds of tokens that count, the last
+pub order_word : (k : TokenKind) → start_of k ≡ start.Counted → (k ≡ kind.Sign sign.ParenOpen → ⊥) → (k ≡ kind.Key key.PtgNull → ⊥) → (k ≡ kind.Key key.If → ⊥) → k ≡ kind.Key key.Order
+order_word (kind.Key key.Order) d p q r = refl
+order_word (kind.Key key.PtgNull) d p q r = absurd (q refl)
+order_word (kind.Key key.If) d p q r = absurd (r refl)
+order_word (kind.Key _) d p q r = cc
+order_word (kind.Sign sign.ParenOpen) d p q r = absurd (p refl)
+order_word (kind.Sign _) d p q r = cc
+order_word (kind.Word _) d p q r = cc
+order_word (kind.Int _) d p q r = cc
+order_word (kind.Str _) d p q r = cc
+order_word (kind.Literal _) d p q r = cc
+
+kept_before : (xs ys : List (List ℕ)) (i : ℕ) (x : List ℕ) → slice_get xs i ≡ Some x → slice_get (xs ++ ys) i ≡ Some x
+kept_before [] ys i x d = cc
+kept_before (y ∷ xs) ys zero x d = d
+kept_before (y ∷ xs) ys (suc i) x d = kept_before xs ys i x d
+
+-- a text keeps its id
+pub text_gained : {old new : List (List ℕ)} (i : ℕ) (x : List ℕ) → Gains old new → slice_get old i ≡ Some x → slice_get new i ≡ Some x
+text_gained {old} {new} i x g d = subst (λ z. slice_get z i ≡ Some x) (sym g.behind) (kept_before old g.added i x d)

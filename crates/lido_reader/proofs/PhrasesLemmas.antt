@@ -326,3 +326,16 @@ pub reads_by : {Y Z : Type 0} (view : Y → Z) (M N : List Token → Z → List 
     → (r : Result (Y × Bor (List Token)) ReadSpecFault) → ReadsSeen view M c text_end us r → ReadsSeen view N d text_end ts r
 reads_by view M N c d text_end us ts l (Ok x) h = l.finds (view x.0) x.1.now h
 reads_by view M N c d text_end us ts l (Err f) h = refused_by M N c d text_end us ts l.refuses f h
+
+-- the same tokens under another name
+pub lead_at : {X : Type 0} {M N : List Token → X → List Token → Type 0} {c d : Token → Bool} {us vs ts : List Token} → ts ≡ vs → Leads M c us N d vs → Leads M c us N d ts
+lead_at {M = M} {N = N} {c = c} {d = d} {us = us} e l = subst (λ z. Leads M c us N d z) (sym e) l
+
+pub refuse_at : {X : Type 0} {N : List Token → X → List Token → Type 0} {c : Token → Bool} {vs ts : List Token} → ts ≡ vs → Refuses N c vs vs → Refuses N c ts ts
+refuse_at {N = N} {c = c} e r = subst (λ z. Refuses N c z z) (sym e) r
+
+pub find_at : {X : Type 0} {N : List Token → X → List Token → Type 0} {c : Token → Bool} {vs ts us : List Token} {x : X} → ts ≡ vs → Finds N c vs x us → Finds N c ts x us
+find_at {N = N} {c = c} {us = us} {x = x} e f = subst (λ z. Finds N c z x us) (sym e) f
+
+pub lead_there : {X : Type 0} {M N : List Token → X → List Token → Type 0} {c d : Token → Bool} {vs ts : List Token} → ts ≡ vs → Leads M c vs N d vs → Leads M c ts N d ts
+lead_there {M = M} {N = N} {c = c} {d = d} e l = subst (λ z. Leads M c z N d z) (sym e) l

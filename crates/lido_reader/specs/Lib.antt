@@ -6,3 +6,4 @@ pub mod Parts
 pub mod Computations
 pub mod Items
 pub mod Specification
+pub mod Found

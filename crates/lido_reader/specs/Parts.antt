@@ -13,8 +13,8 @@ use Rattle.lido_syntax.specs.declared.spec.Expr.{Expr}
 use Rattle.lido_syntax.specs.declared.spec.Expr.TheVariants as expr
 use Rattle.lido_syntax.specs.declared.spec.Place.TheVariants as place
 use Rattle.lido_reader.specs.Phrases.{Done, Then, ReadsSeen, is_comma}
-use Rattle.lido_reader.specs.Places.{IsIndex, IsReadOf}
-use Rattle.lido_reader.specs.Counting.{spent}
+use Rattle.lido_reader.specs.Places.{IsIndex, IsReadOf, AreConstituentsOf}
+use Rattle.lido_reader.specs.Counting.{spent, numbered}
 use Rattle.lido_reader.specs.Expressions.{IsExpr, AreSome, continues, follows_primary}
 use Rattle.lido_reader.specs.declared.counts.Counts.{Counts}
 use Rattle.lido_reader.specs.declared.fault.ReadSpecFault.{ReadSpecFault}
@@ -35,6 +35,10 @@ pub record Spending {X : Type 0} (s : Counts) (N : Counts → List Token → X �
   pub left : Counts
   pub spends : spent s ≡ Some left
   pub phrase : N left ts x us
+
+-- behind CONSTITUENTS, with its number
+abbrev pub AreNumbered : ℕ → Counts → List Token → Expr × Counts → List Token → Type 0
+AreNumbered at s = Then (AreConstituentsOf at s.number) (λ k. Done (expr.Constituents k, numbered s))
 
 module _ (texts : List (List ℕ)) where
   -- no token, and the name of a function at this place

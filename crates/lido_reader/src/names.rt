@@ -137,7 +137,7 @@ pub(crate) fn value_type(tokens: &[Token], end: u32) -> Result<(ValueType, &[Tok
 }
 
 /// One or more names with commas between them.
-pub fn names(
+pub(crate) fn names(
     alloc: Global,
     tokens: &[Token],
     end: u32,

@@ -1,13 +1,17 @@
 //! SYMBOL items.
 ghost use Rattle.std.specs.Prelude.{◌≡◌, ◌+◌, ◌<◌, ◌≤◌, ◌∷◌, [], ◌↔◌, List as Sequence, ℕ, IsTrue, length, IfOk};
 ghost use Rattle.lido_base.specs.Reading.{GoesOn, nothing};
-ghost use Rattle.lido_reader.specs.Items.{AreInherited, IsDeclaring, IsSymbolHead, continues_inherited, is_declaring};
+ghost use Rattle.lido_lexer.specs.Lexing.{Gains};
+ghost use Rattle.lido_reader.specs.Computations.{IsComputation};
+ghost use Rattle.lido_reader.specs.Items.{AreInherited, IsAbout, IsComputing, IsDeclaring, IsSymbol, IsSymbolHead, continues_inherited, is_declaring};
 ghost use Rattle.lido_reader.specs.Phrases.{AreMore, IsName, ReadsSeen, is_comma};
+ghost use Rattle.lido_reader.specs.Specification.{IsLater};
 
 use crate::ReadSpecFault;
+use crate::bodies::body;
 use crate::declarations::decls;
 use crate::names::{after_key, after_sign, keyword, name, names, sign};
-use lido_base::List;
+use lido_base::{List, Strings};
 use lido_lexer::{Keyword, Sign, Token, is_sign, next};
 use lido_syntax::{Name, SymbolItem};
 use std::alloc::Global;
@@ -121,4 +125,82 @@ fn declaring(
         body: List::new(alloc),
     };
     Ok(((item, number), rest))
+}
+
+/// `["INHERITS" name {"," name}] body`, behind the only name
+fn computing<'a>(
+    alloc: Global,
+    tokens: &'a [Token],
+    end: u32,
+    strings: &mut Strings,
+    head: SymbolHead,
+    first: Name,
+    number: u32,
+) -> Result<((SymbolItem, u32), &'a [Token]), ReadSpecFault>
+    ensures reads { (texts : Sequence (Sequence ℕ)) → IsLater strings.new texts
+        → ReadsSeen (λ item. item) (IsComputing (IsComputation texts) (head.at, head.class) first number) nothing end tokens.now result }
+    ensures kept { Gains strings.old strings.new }
+    ensures few { length strings.new ≤ length strings.old + length tokens.now }
+    ensures each { IfOk result (λ x. length strings.new + length x.1.now ≤ length strings.old + length tokens.now) }
+    ensures shorter { IfOk result (λ x. length x.1.now < length tokens.now) }
+{
+    let (classes, behind_classes) = inherited(alloc, tokens, end)?;
+    let (computed, rest) = body(alloc, behind_classes, end, strings, number)?;
+    let names = vec![in alloc; first]?;
+    let item = SymbolItem {
+        at: head.at,
+        class: head.class,
+        names: List::from_vec(names),
+        inherits: List::from_vec(classes),
+        decls: List::new(alloc),
+        body: List::from_vec(computed.all),
+    };
+    Ok(((item, computed.next), rest))
+}
+
+/// What stands behind the first name of a SYMBOL item; and the number of the next computation.
+fn about<'a>(
+    alloc: Global,
+    tokens: &'a [Token],
+    end: u32,
+    strings: &mut Strings,
+    head: SymbolHead,
+    first: Name,
+    number: u32,
+) -> Result<((SymbolItem, u32), &'a [Token]), ReadSpecFault>
+    ensures reads { (texts : Sequence (Sequence ℕ)) → IsLater strings.new texts
+        → ReadsSeen (λ item. item) (IsAbout (IsComputation texts) (head.at, head.class) first number) nothing end tokens.now result }
+    ensures kept { Gains strings.old strings.new }
+    ensures few { length strings.new ≤ length strings.old + length tokens.now }
+    ensures each { IfOk result (λ x. length strings.new + length x.1.now ≤ length strings.old + length tokens.now) }
+    ensures shorter { IfOk result (λ x. length x.1.now < length tokens.now) }
+{
+    if is_declaring(tokens) {
+        let (declared, rest) = declaring(alloc, tokens, end, head, first, number)?;
+        return Ok((declared, rest));
+    }
+    let (computed, rest) = computing(alloc, tokens, end, strings, head, first, number)?;
+    Ok((computed, rest))
+}
+
+/// `["CLASS"] "SYMBOL" name`, and what stands behind it, computations numbered from `number`; and the number of the next
+/// computation.
+pub(crate) fn symbol<'a>(
+    alloc: Global,
+    tokens: &'a [Token],
+    end: u32,
+    strings: &mut Strings,
+    number: u32,
+) -> Result<((SymbolItem, u32), &'a [Token]), ReadSpecFault>
+    ensures reads { (texts : Sequence (Sequence ℕ)) → IsLater strings.new texts
+        → ReadsSeen (λ item. item) (IsSymbol (IsComputation texts) number) nothing end tokens.now result }
+    ensures kept { Gains strings.old strings.new }
+    ensures few { length strings.new ≤ length strings.old + length tokens.now }
+    ensures each { IfOk result (λ x. length strings.new + length x.1.now ≤ length strings.old + length tokens.now) }
+    ensures shorter { IfOk result (λ x. length x.1.now < length tokens.now) }
+{
+    let (head, behind_head) = symbol_head(tokens, end)?;
+    let (first, behind_first) = name(behind_head, end)?;
+    let (item, rest) = about(alloc, behind_first, end, strings, head, first, number)?;
+    Ok((item, rest))
 }

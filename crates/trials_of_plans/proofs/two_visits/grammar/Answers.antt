@@ -1,5 +1,3 @@
-use Rattle.std.proofs.Common.{sym, subst}
-use Rattle.flat_grammar.specs.WellFormed.{IsWellFormed}
 use Rattle.trials_of_plans.specs.TwoVisits.{symbols, rules, shapes}
 use Rattle.trials_of_grammar.specs.ListOfItems.{symbol}
 use Rattle.trials_of_plans.proofs.WellFormedGrammars.{two-well-formed, same-well-formed}

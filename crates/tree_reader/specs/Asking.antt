@@ -1,6 +1,6 @@
 -- What a flat grammar asks of written trees: the names of its shapes, and the children that each may have. A shape is known by its
 -- place among the shapes.
-use Rattle.std.specs.Prelude.{◌≡◌, ◌==◌, ◌||◌, ℕ, Bool, true, false, nat_le, if◌then◌else◌, List, [], length, Option, Some, None, slice_get, slice_index_or, option_and_then, option_map, position, bytes_eq}
+use Rattle.std.specs.Prelude.{◌≡◌, ◌<◌, ◌==◌, ◌||◌, ℕ, suc, Bool, true, false, nat_le, if◌then◌else◌, List, [], ◌∷◌, length, Option, Some, None, slice_get, slice_index_or, option_and_then, option_map, bytes_eq}
 use Rattle.std.specs.List.{list_any}
 use Rattle.lido_base.specs.declared.ids.SymId.{SymId}
 use Rattle.lido_base.specs.declared.value.ValueType.{ValueType}
@@ -27,6 +27,11 @@ no_shape = record { rule = record { 0 = 0 }; list = false; right = [] }
 -- the shape of a number
 abbrev pub shape_at : List Shape → ℕ → Shape
 shape_at shapes k = slice_index_or shapes k no_shape
+
+-- the place of the first that passes the test, counted from k
+abbrev pub first_from : {X : Type 0} → ℕ → (X → Bool) → List X → Option ℕ
+first_from k p [] = None
+first_from k p (x ∷ xs) = if p x then Some k else first_from (suc k) p xs
 
 -- the symbol that child k of a node of the shape has, if it is a plain one
 abbrev pub child_symbol : Shape → ℕ → Option SymId
@@ -69,10 +74,24 @@ module _ (symbols : List FlatSymbol) (rules : List FlatRule) (shapes : List Shap
     -- the grammar, as far as reading a tree asks
     abbrev pub asked : Asked ℕ
     asked = record {
-      named = λ name. position (has_name name) shapes;
+      named = λ name. first_from 0 (has_name name) shapes;
       rule = λ x. (shape_at shapes x).rule.0;
       is_root = λ x. may_be_root (shape_at shapes x);
       takes = λ x k y. may_be_node (shape_at shapes x) k (shape_at shapes y);
       takes_value = λ x k ty. may_be_value (shape_at shapes x) k ty;
       is_enough = λ x k. (shape_at shapes x).list || nat_le (length (shape_at shapes x).right) k;
     }
+
+-- the name of the shape's rule has this id
+abbrev pub is_called : List FlatRule → ℕ → Shape → Bool
+is_called rules id shape = elim (slice_get rules shape.rule.0) [ None ↦ false | Some r ↦ r.name.0 == id ]
+
+-- the first shape that each of so many ids calls
+pub record IsNameTable (rules : List FlatRule) (shapes : List Shape) (count : ℕ) (names : List (Option ℕ)) : Type 0 where
+  pub each : length names ≡ count
+  pub first : (id : ℕ) → id < count → slice_index_or names id None ≡ first_from 0 (is_called rules id) shapes
+
+-- the place that is there, or else this one if the test holds
+abbrev pub or_last : Option ℕ → Bool → ℕ → Option ℕ
+or_last None b k = if b then Some k else None
+or_last (Some j) b k = Some j

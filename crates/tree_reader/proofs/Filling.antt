@@ -9,13 +9,7 @@ use Rattle.tree_store.specs.declared.fault.TreeFault.{TreeFault}
 use Rattle.tree_store.specs.declared.fault.TreeFault.TheVariants as fault
 use Rattle.tree_store.proofs.GrowthLemmas.{length-with_item, items_of-with_item, items_of-append}
 use Rattle.tree_reader.specs.Language.{Forest, none, node, int, string}
-use Rattle.tree_reader.specs.WrittenTrees.{Asked, count, first_of, unless_fault, rule_named, items, nodes, fault_among, meaning, most_nodes}
-
--- the items go behind those of node p
-abbrev pub add_items : {V : Type 0} → Tree V → ℕ → List (Item V) → Tree V
-add_items [] p more = []
-add_items (n ∷ t) zero more = record n { items = n.items ++ more } ∷ t
-add_items (n ∷ t) (suc p) more = n ∷ add_items t p more
+use Rattle.tree_reader.specs.WrittenTrees.{Asked, count, first_of, unless_fault, rule_named, items, nodes, fault_among, node_fault, meaning, most_nodes, add_items, Frame, fill, resume}
 
 module _ {V : Type 0} where
   add_none : (t : Tree V) (p : ℕ) → add_items t p [] ≡ t
@@ -44,12 +38,12 @@ module _ {V : Type 0} where
   length-add_items (n ∷ t) zero more = refl
   length-add_items (n ∷ t) (suc p) more = ap suc (length-add_items t p more)
 
-  items_left : (t u : Tree V) (p : ℕ) → p < length t → items_of (t ++ u) p ≡ items_of t p
+  pub items_left : (t u : Tree V) (p : ℕ) → p < length t → items_of (t ++ u) p ≡ items_of t p
   items_left [] u p less = absurd (omega arith)
   items_left (n ∷ t) u zero less = refl
   items_left (n ∷ t) u (suc p) less = items_left t u p (omega arith)
 
-  items_last : (t : Tree V) (n : Node V) (p : ℕ) → p ≡ length t → items_of (t ++ n ∷ []) p ≡ n.items
+  pub items_last : (t : Tree V) (n : Node V) (p : ℕ) → p ≡ length t → items_of (t ++ n ∷ []) p ≡ n.items
   items_last [] n zero is = refl
   items_last [] n (suc p) is = absurd (omega (arith, is))
   items_last (m ∷ t) n zero is = absurd (omega (arith, is))
@@ -57,13 +51,6 @@ module _ {V : Type 0} where
 
   pub places_with : (t : Tree V) (p : ℕ) (x : Item V) → p < length t → places (with_item t p x) p ≡ suc (places t p)
   places_with t p x less = ap length (items_of-with_item t p x less) ∙ omega (arith, length-append (items_of t p) (x ∷ []))
-
--- an open node: its number, its shape, the children that are still to come, and the place of its closing bracket
-pub record Frame (S : Type 0) : Type 0 where
-  pub at : ℕ
-  pub shape : S
-  pub rest : Forest
-  pub close : ℕ
 
 module _ {S : Type 0} (g : Asked S) where
   length-nodes : (n p k : ℕ) (f : Forest) → length (nodes g n p k f) ≡ count f
@@ -77,20 +64,11 @@ module _ {S : Type 0} (g : Asked S) where
   length-nodes n p k (int at value after) = length-nodes n p (suc k) after
   length-nodes n p k (string at text after) = length-nodes n p (suc k) after
 
-  -- the table with the siblings as further children of node p
-  abbrev pub fill : Tree Plain → ℕ → Forest → Tree Plain
-  fill t p f = add_items t p (items g (length t) f) ++ nodes g (length t) p (places t p) f
-
-  -- what comes of a table, where these nodes are open
-  abbrev pub resume : List (Frame S) → Tree Plain → Result (Tree Plain) TreeFault
-  resume [] t = Ok t
-  resume (f ∷ fs) t = elim (fault_among g f.shape (places t f.at) (length t) f.rest f.close) [ None ↦ resume fs (fill t f.at f.rest) | Some e ↦ Err e ]
-
-  fill_none : (t : Tree Plain) (p : ℕ) → fill t p none ≡ t
+  fill_none : (t : Tree Plain) (p : ℕ) → fill g t p none ≡ t
   fill_none t p = append-nil (add_items t p []) ∙ add_none t p
 
   fill_leaf : (t : Tree Plain) (p : ℕ) (v : Plain) (after : Forest) → p < length t
-      → add_items t p (Leaf v ∷ items g (length t) after) ++ nodes g (length t) p (suc (places t p)) after ≡ fill (with_item t p (Leaf v)) p after
+      → add_items t p (Leaf v ∷ items g (length t) after) ++ nodes g (length t) p (suc (places t p)) after ≡ fill g (with_item t p (Leaf v)) p after
   fill_leaf t p v after less =
       ap (λ (l : Tree Plain). l ++ nodes g (length t) p (suc (places t p)) after) (sym (add_after t p (Leaf v) (items g (length t) after)))
       ∙ ap (λ (n : ℕ). add_items (with_item t p (Leaf v)) p (items g n after) ++ nodes g n p (suc (places t p)) after) (sym (length-with_item t p (Leaf v)))
@@ -103,7 +81,7 @@ module _ {S : Type 0} (g : Asked S) where
   length-grown t rule p = omega (arith, length-append (with_item t p (Child (length t))) (added t p rule ∷ []), length-with_item t p (Child (length t)))
 
   -- the node is there, with its children
-  fill_below : (t : Tree Plain) (rule p : ℕ) (below : Forest) → fill (with_node t rule (Some p)) (length t) below
+  fill_below : (t : Tree Plain) (rule p : ℕ) (below : Forest) → fill g (with_node t rule (Some p)) (length t) below
       ≡ (with_item t p (Child (length t)) ++ record (added t p rule) { items = items g (suc (length t)) below } ∷ []) ++ nodes g (suc (length t)) (length t) 0 below
   fill_below t rule p below =
       ap (λ (n : ℕ). add_items (with_node t rule (Some p)) (length t) (items g n below) ++ nodes g n (length t) (places (with_node t rule (Some p)) (length t)) below) (length-grown t rule p)
@@ -114,7 +92,7 @@ module _ {S : Type 0} (g : Asked S) where
 
   -- what the table is when the node, what is below it, and the siblings behind it are there
   fill_after : (t : Tree Plain) (rule p : ℕ) (below after : Forest) → p < length t
-      → fill (fill (with_node t rule (Some p)) (length t) below) p after
+      → fill g (fill g (with_node t rule (Some p)) (length t) below) p after
       ≡ add_items t p (Child (length t) ∷ items g (suc (length t + count below)) after)
       ++ (record (added t p rule) { items = items g (suc (length t)) below } ∷ (nodes g (suc (length t)) (length t) 0 below ++ nodes g (suc (length t + count below)) p (suc (places t p)) after))
   fill_after t rule p below after less =
@@ -130,7 +108,7 @@ module _ {S : Type 0} (g : Asked S) where
       let many : places u p ≡ suc (places t p) = ap length (items_left (base ++ node' ∷ []) low p inside') ∙ ap length (items_left base (node' ∷ []) p inside) ∙ places_with t p x less in
       let m = suc (n + count below) in
       let last : Tree Plain = nodes g m p (suc (places t p)) after in
-      ap (λ (v : Tree Plain). fill v p after) (fill_below t rule p below)
+      ap (λ (v : Tree Plain). fill g v p after) (fill_below t rule p below)
       ∙ ap (λ (k : ℕ). add_items u p (items g k after) ++ nodes g k p (places u p) after) size
       ∙ ap (λ (k : ℕ). add_items u p (items g m after) ++ nodes g m p k after) many
       ∙ ap (λ (v : Tree Plain). v ++ last)
@@ -142,7 +120,7 @@ module _ {S : Type 0} (g : Asked S) where
   named_rule name x is = ap (λ (o : Option S). elim o as (λ _. ℕ) [ None ↦ 0 | Some y ↦ g.rule y ]) is
 
   fill_node : (t : Tree Plain) (p at name_at : ℕ) (name : List ℕ) (below : Forest) (end : ℕ) (after : Forest) (x : S) → p < length t → g.named name ≡ Some x
-      → fill t p (node at name_at name below end after) ≡ fill (fill (with_node t (g.rule x) (Some p)) (length t) below) p after
+      → fill g t p (node at name_at name below end after) ≡ fill g (fill g (with_node t (g.rule x) (Some p)) (length t) below) p after
   fill_node t p at name_at name below end after x less is =
       let n = length t in
       let rest : Tree Plain = nodes g (suc n) n 0 below ++ nodes g (suc (n + count below)) p (suc (places t p)) after in
@@ -169,52 +147,45 @@ module _ {S : Type 0} (g : Asked S) where
   go_on o r = elim o [ None ↦ r | Some e ↦ Err e ]
 
   pub resume_int : (p : ℕ) (x : S) (at : ℕ) (v : ℤ) (after : Forest) (close : ℕ) (fs : List (Frame S)) (t : Tree Plain) → p < length t → g.takes_value x (places t p) type.Int ≡ true
-      → resume (record { at = p; shape = x; rest = int at v after; close = close } ∷ fs) t ≡ resume (record { at = p; shape = x; rest = after; close = close } ∷ fs) (with_item t p (Leaf (Int v)))
+      → resume g (record { at = p; shape = x; rest = int at v after; close = close } ∷ fs) t ≡ resume g (record { at = p; shape = x; rest = after; close = close } ∷ fs) (with_item t p (Leaf (Int v)))
   resume_int p x at v after close fs t less takes =
-      ap (λ (o : Option TreeFault). go_on o (resume fs (fill t p (int at v after)))) (chosen (g.takes_value x (places t p) type.Int) (fault_among g x (suc (places t p)) (length t) after close) (Some (fault.WrongChild at)) takes)
-      ∙ ap (λ (u : Tree Plain). go_on (fault_among g x (suc (places t p)) (length t) after close) (resume fs u)) (fill_leaf t p (Int v) after less)
-      ∙ ap (λ (k : ℕ). go_on (fault_among g x k (length t) after close) (resume fs (fill (with_item t p (Leaf (Int v))) p after))) (sym (places_with t p (Leaf (Int v)) less))
-      ∙ ap (λ (n : ℕ). go_on (fault_among g x (places (with_item t p (Leaf (Int v))) p) n after close) (resume fs (fill (with_item t p (Leaf (Int v))) p after))) (sym (length-with_item t p (Leaf (Int v))))
+      ap (λ (o : Option TreeFault). go_on o (resume g fs (fill g t p (int at v after)))) (chosen (g.takes_value x (places t p) type.Int) (fault_among g x (suc (places t p)) (length t) after close) (Some (fault.WrongChild at)) takes)
+      ∙ ap (λ (u : Tree Plain). go_on (fault_among g x (suc (places t p)) (length t) after close) (resume g fs u)) (fill_leaf t p (Int v) after less)
+      ∙ ap (λ (k : ℕ). go_on (fault_among g x k (length t) after close) (resume g fs (fill g (with_item t p (Leaf (Int v))) p after))) (sym (places_with t p (Leaf (Int v)) less))
+      ∙ ap (λ (n : ℕ). go_on (fault_among g x (places (with_item t p (Leaf (Int v))) p) n after close) (resume g fs (fill g (with_item t p (Leaf (Int v))) p after))) (sym (length-with_item t p (Leaf (Int v))))
 
   pub resume_no_int : (p : ℕ) (x : S) (at : ℕ) (v : ℤ) (after : Forest) (close : ℕ) (fs : List (Frame S)) (t : Tree Plain) → g.takes_value x (places t p) type.Int ≡ false
-      → resume (record { at = p; shape = x; rest = int at v after; close = close } ∷ fs) t ≡ Err (fault.WrongChild at)
+      → resume g (record { at = p; shape = x; rest = int at v after; close = close } ∷ fs) t ≡ Err (fault.WrongChild at)
   resume_no_int p x at v after close fs t takes =
-      ap (λ (o : Option TreeFault). go_on o (resume fs (fill t p (int at v after)))) (refused (g.takes_value x (places t p) type.Int) (fault_among g x (suc (places t p)) (length t) after close) (Some (fault.WrongChild at)) takes)
+      ap (λ (o : Option TreeFault). go_on o (resume g fs (fill g t p (int at v after)))) (refused (g.takes_value x (places t p) type.Int) (fault_among g x (suc (places t p)) (length t) after close) (Some (fault.WrongChild at)) takes)
 
   pub resume_text : (p : ℕ) (x : S) (at : ℕ) (v : List ℕ) (after : Forest) (close : ℕ) (fs : List (Frame S)) (t : Tree Plain) → p < length t → g.takes_value x (places t p) type.Str ≡ true
-      → resume (record { at = p; shape = x; rest = string at v after; close = close } ∷ fs) t ≡ resume (record { at = p; shape = x; rest = after; close = close } ∷ fs) (with_item t p (Leaf (Str v)))
+      → resume g (record { at = p; shape = x; rest = string at v after; close = close } ∷ fs) t ≡ resume g (record { at = p; shape = x; rest = after; close = close } ∷ fs) (with_item t p (Leaf (Str v)))
   resume_text p x at v after close fs t less takes =
-      ap (λ (o : Option TreeFault). go_on o (resume fs (fill t p (string at v after)))) (chosen (g.takes_value x (places t p) type.Str) (fault_among g x (suc (places t p)) (length t) after close) (Some (fault.WrongChild at)) takes)
-      ∙ ap (λ (u : Tree Plain). go_on (fault_among g x (suc (places t p)) (length t) after close) (resume fs u)) (fill_leaf t p (Str v) after less)
-      ∙ ap (λ (k : ℕ). go_on (fault_among g x k (length t) after close) (resume fs (fill (with_item t p (Leaf (Str v))) p after))) (sym (places_with t p (Leaf (Str v)) less))
-      ∙ ap (λ (n : ℕ). go_on (fault_among g x (places (with_item t p (Leaf (Str v))) p) n after close) (resume fs (fill (with_item t p (Leaf (Str v))) p after))) (sym (length-with_item t p (Leaf (Str v))))
+      ap (λ (o : Option TreeFault). go_on o (resume g fs (fill g t p (string at v after)))) (chosen (g.takes_value x (places t p) type.Str) (fault_among g x (suc (places t p)) (length t) after close) (Some (fault.WrongChild at)) takes)
+      ∙ ap (λ (u : Tree Plain). go_on (fault_among g x (suc (places t p)) (length t) after close) (resume g fs u)) (fill_leaf t p (Str v) after less)
+      ∙ ap (λ (k : ℕ). go_on (fault_among g x k (length t) after close) (resume g fs (fill g (with_item t p (Leaf (Str v))) p after))) (sym (places_with t p (Leaf (Str v)) less))
+      ∙ ap (λ (n : ℕ). go_on (fault_among g x (places (with_item t p (Leaf (Str v))) p) n after close) (resume g fs (fill g (with_item t p (Leaf (Str v))) p after))) (sym (length-with_item t p (Leaf (Str v))))
 
   pub resume_no_text : (p : ℕ) (x : S) (at : ℕ) (v : List ℕ) (after : Forest) (close : ℕ) (fs : List (Frame S)) (t : Tree Plain) → g.takes_value x (places t p) type.Str ≡ false
-      → resume (record { at = p; shape = x; rest = string at v after; close = close } ∷ fs) t ≡ Err (fault.WrongChild at)
+      → resume g (record { at = p; shape = x; rest = string at v after; close = close } ∷ fs) t ≡ Err (fault.WrongChild at)
   resume_no_text p x at v after close fs t takes =
-      ap (λ (o : Option TreeFault). go_on o (resume fs (fill t p (string at v after)))) (refused (g.takes_value x (places t p) type.Str) (fault_among g x (suc (places t p)) (length t) after close) (Some (fault.WrongChild at)) takes)
+      ap (λ (o : Option TreeFault). go_on o (resume g fs (fill g t p (string at v after)))) (refused (g.takes_value x (places t p) type.Str) (fault_among g x (suc (places t p)) (length t) after close) (Some (fault.WrongChild at)) takes)
 
   pub resume_end : (p : ℕ) (x : S) (close : ℕ) (fs : List (Frame S)) (t : Tree Plain) → g.is_enough x (places t p) ≡ true
-      → resume (record { at = p; shape = x; rest = none; close = close } ∷ fs) t ≡ resume fs t
+      → resume g (record { at = p; shape = x; rest = none; close = close } ∷ fs) t ≡ resume g fs t
   resume_end p x close fs t enough =
-      ap (λ (o : Option TreeFault). go_on o (resume fs (fill t p none))) (chosen (g.is_enough x (places t p)) None (Some (fault.WrongChild close)) enough)
-      ∙ ap (λ (u : Tree Plain). resume fs u) (fill_none t p)
+      ap (λ (o : Option TreeFault). go_on o (resume g fs (fill g t p none))) (chosen (g.is_enough x (places t p)) None (Some (fault.WrongChild close)) enough)
+      ∙ ap (λ (u : Tree Plain). resume g fs u) (fill_none t p)
 
   pub resume_no_end : (p : ℕ) (x : S) (close : ℕ) (fs : List (Frame S)) (t : Tree Plain) → g.is_enough x (places t p) ≡ false
-      → resume (record { at = p; shape = x; rest = none; close = close } ∷ fs) t ≡ Err (fault.WrongChild close)
+      → resume g (record { at = p; shape = x; rest = none; close = close } ∷ fs) t ≡ Err (fault.WrongChild close)
   resume_no_end p x close fs t enough =
-      ap (λ (o : Option TreeFault). go_on o (resume fs (fill t p none))) (refused (g.is_enough x (places t p)) None (Some (fault.WrongChild close)) enough)
+      ap (λ (o : Option TreeFault). go_on o (resume g fs (fill g t p none))) (refused (g.is_enough x (places t p)) None (Some (fault.WrongChild close)) enough)
 
   go_first : (a b : Option TreeFault) (r : Result (Tree Plain) TreeFault) → go_on (first_of a b) r ≡ go_on a (go_on b r)
   go_first None b r = refl
   go_first (Some e) b r = refl
-
-  -- what a node is refused for, beside what stands below and behind it
-  abbrev pub node_fault : S → ℕ → ℕ → ℕ → ℕ → List ℕ → Option TreeFault
-  node_fault s k n at name_at name = elim (g.named name) [
-    | None ↦ Some (fault.UnknownRule name_at)
-    | Some x ↦ if g.takes s k x then (if nat_le most_nodes n then Some (fault.TooMany many.Nodes) else None) else Some (fault.WrongChild at)
-  ]
 
   -- the node and what follows it, where its shape is known
   abbrev then_node : S → ℕ → ℕ → ℕ → S → Option TreeFault → Option TreeFault
@@ -244,23 +215,23 @@ module _ {S : Type 0} (g : Asked S) where
       by_takes false b is = absurd (cc)
 
   pub resume_no_node : (p : ℕ) (x : S) (at name_at : ℕ) (name : List ℕ) (below : Forest) (end : ℕ) (after : Forest) (close : ℕ) (fs : List (Frame S)) (t : Tree Plain) (e : TreeFault)
-      → node_fault x (places t p) (length t) at name_at name ≡ Some e
-      → resume (record { at = p; shape = x; rest = node at name_at name below end after; close = close } ∷ fs) t ≡ Err e
+      → node_fault g x (places t p) (length t) at name_at name ≡ Some e
+      → resume g (record { at = p; shape = x; rest = node at name_at name below end after; close = close } ∷ fs) t ≡ Err e
   resume_no_node p x at name_at name below end after close fs t e is =
-      ap (λ (o : Option TreeFault). go_on o (resume fs (fill t p (node at name_at name below end after))))
+      ap (λ (o : Option TreeFault). go_on o (resume g fs (fill g t p (node at name_at name below end after))))
       (stops x (places t p) (length t) at name_at e (λ y. first_of (fault_among g y 0 (suc (length t)) below end) (fault_among g x (suc (places t p)) (suc (length t + count below)) after close)) (g.named name) is)
 
   pub resume_node : (p : ℕ) (x : S) (at name_at : ℕ) (name : List ℕ) (below : Forest) (end : ℕ) (after : Forest) (close : ℕ) (fs : List (Frame S)) (t : Tree Plain) (y : S) → p < length t
-      → g.named name ≡ Some y → node_fault x (places t p) (length t) at name_at name ≡ None
-      → resume (record { at = p; shape = x; rest = node at name_at name below end after; close = close } ∷ fs) t
-      ≡ resume (record { at = length t; shape = y; rest = below; close = end } ∷ record { at = p; shape = x; rest = after; close = close } ∷ fs) (with_node t (g.rule y) (Some p))
+      → g.named name ≡ Some y → node_fault g x (places t p) (length t) at name_at name ≡ None
+      → resume g (record { at = p; shape = x; rest = node at name_at name below end after; close = close } ∷ fs) t
+      ≡ resume g (record { at = length t; shape = y; rest = below; close = end } ∷ record { at = p; shape = x; rest = after; close = close } ∷ fs) (with_node t (g.rule y) (Some p))
   resume_node p x at name_at name below end after close fs t y less is free =
       let n = length t in
       let t' : Tree Plain = with_node t (g.rule y) (Some p) in
-      let u : Tree Plain = fill t' n below in
+      let u : Tree Plain = fill g t' n below in
       let low : Option TreeFault = fault_among g y 0 (suc n) below end in
       let later : Option TreeFault = fault_among g x (suc (places t p)) (suc (n + count below)) after close in
-      let end_of : Result (Tree Plain) TreeFault = resume fs (fill u p after) in
+      let end_of : Result (Tree Plain) TreeFault = resume g fs (fill g u p after) in
       let item : Item Plain = Child n in
       let base : Tree Plain = with_item t p item in
       let node' : Node Plain = record (added t p (g.rule y)) { items = items g (suc n) below } in
@@ -270,9 +241,9 @@ module _ {S : Type 0} (g : Asked S) where
       let inside' : p < length (base ++ node' ∷ []) = omega (arith, inside, length-append base (node' ∷ [])) in
       let size : length u ≡ suc (n + count below) = ap length whole ∙ omega (arith, length-append (base ++ node' ∷ []) deep, length-append base (node' ∷ []), length-with_item t p item, length-nodes (suc n) n 0 below) in
       let many' : places u p ≡ suc (places t p) = ap (λ (v : Tree Plain). places v p) whole ∙ ap length (items_left (base ++ node' ∷ []) deep p inside') ∙ ap length (items_left base (node' ∷ []) p inside) ∙ places_with t p item less in
-      ap (λ (o : Option TreeFault). go_on o (resume fs (fill t p (node at name_at name below end after))))
+      ap (λ (o : Option TreeFault). go_on o (resume g fs (fill g t p (node at name_at name below end after))))
       (goes x (places t p) n at name_at y (λ z. first_of (fault_among g z 0 (suc n) below end) later) (g.named name) is free)
-      ∙ ap (λ (v : Tree Plain). go_on (first_of low later) (resume fs v)) (fill_node t p at name_at name below end after y less is)
+      ∙ ap (λ (v : Tree Plain). go_on (first_of low later) (resume g fs v)) (fill_node t p at name_at name below end after y less is)
       ∙ go_first low later end_of
       ∙ ap (λ (k : ℕ). go_on low (go_on (fault_among g x k (suc (n + count below)) after close) end_of)) (sym many')
       ∙ ap (λ (m : ℕ). go_on low (go_on (fault_among g x (places u p) m after close) end_of)) (sym size)

@@ -1,6 +1,6 @@
 -- The first shape of a name.
 use Rattle.std.proofs.Common.{◌≡◌, ◌≢◌, ℕ, ◌+◌, ◌<◌, ◌≤◌, ◌⊎◌, inl, inr, ⊎_elim, Bool, true, false, true≢false, ◌==◌, if◌then◌else◌, List, [], ◌∷◌, ◌++◌, length, take, get_or, replicate, Bor, Some, None, Option, refl, ap, sym, ◌∙◌, subst, arith, append-nil, suc, zero, length-append}
-use Rattle.std.specs.Prelude.{slice_get, slice_index_or, bytes_eq, option_and_then, option_map, unwrap_or, option_copied}
+use Rattle.std.specs.Prelude.{IfSome, slice_get, slice_index_or, bytes_eq, option_and_then, option_map, unwrap_or, option_copied}
 use Rattle.std.specs.Option.{option_flatten}
 use Rattle.std.specs.List.{list_any}
 use Rattle.std.proofs.lemmas.Bool.{cases_lt}
@@ -197,3 +197,27 @@ called_never rules id shape missing = ap (λ (o : Option FlatRule). elim o as (�
 pub flat_is : (o : Option (Bor (Option ℕ))) → option_flatten (option_copied o) ≡ unwrap_or (option_map (λ (x : Bor (Option ℕ)). x.now) o) None
 flat_is None = refl
 flat_is (Some x) = refl
+
+inside_test : {X : Type 0} (p : X → Bool) (k j : ℕ) (xs : List X) (b : Bool) → (first_from (suc k) p xs ≡ Some j → j < suc k + length xs) → (if b then Some k else first_from (suc k) p xs) ≡ Some j → j < k + suc (length xs)
+inside_test p k j xs true later e = let same_k : k ≡ j = held e in omega (arith, same_k)
+inside_test p k j xs false later e = omega (arith, later e)
+
+first_inside : {X : Type 0} (p : X → Bool) (k j : ℕ) (xs : List X) → first_from k p xs ≡ Some j → j < k + length xs
+first_inside p k j [] e = absurd (none-some _ e)
+first_inside p k j (x ∷ xs) e = inside_test p k j xs (p x) (first_inside p (suc k) j xs) e
+
+nothing_past : (xs : List (Option ℕ)) (i : ℕ) → length xs ≤ i → slice_index_or xs i None ≡ nothing
+nothing_past [] i past = refl
+nothing_past (x ∷ xs) zero past = absurd (omega arith)
+nothing_past (x ∷ xs) (suc i) past = nothing_past xs i (omega arith)
+
+inside_by : (o : Option ℕ) (n : ℕ) → ((j : ℕ) → o ≡ Some j → j < n) → IfSome o (λ k. k < n)
+inside_by None n each = tt
+inside_by (Some j) n each = each j refl
+
+pub found_inside : (rules : List FlatRule) (shapes : List Shape) (names : List (Option ℕ)) (id : ℕ) (o : Option ℕ) → IsNameTable rules shapes (length names) names → o ≡ slice_index_or names id None
+    → IfSome o (λ k. k < length shapes)
+found_inside rules shapes names id o table is = inside_by o (length shapes) (λ j e. ⊎_elim
+    (λ less. let n = first_inside (is_called rules id) 0 j shapes (sym (table.first id less) ∙ sym is ∙ e) in omega (arith, n))
+    (λ past. absurd (none-some _ (sym (nothing_past names id past) ∙ sym is ∙ e)))
+    (cases_lt id (length names)))

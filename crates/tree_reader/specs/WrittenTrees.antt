@@ -1,8 +1,8 @@
 -- What a bracketed tree means over a flat grammar: the first fault of its nodes from the left, or the written tree as a table.
-use Rattle.std.specs.Prelude.{◌≡◌, ◌+◌, ℕ, zero, suc, Bool, true, false, not, ◌||◌, nat_le, if◌then◌else◌, List, [], ◌∷◌, ◌++◌, length, Option, Some, None, Result, Ok, Err, slice_get, option_and_then, position, bytes_eq}
+use Rattle.std.specs.Prelude.{◌≡◌, ◌+◌, ℕ, zero, suc, Bool, nat_le, if◌then◌else◌, List, [], ◌∷◌, ◌++◌, length, Option, Some, None, Result, Ok, Err}
 use Rattle.std.specs.List.{list_any}
 use Rattle.lido_base.specs.Plain.{Plain, Int, Str}
-use Rattle.lido_base.specs.Tree.{Tree, Node, Item, Child, Leaf}
+use Rattle.lido_base.specs.Tree.{Tree, Node, Item, Child, Leaf, places}
 use Rattle.lido_base.specs.declared.ids.SymId.{SymId}
 use Rattle.lido_base.specs.declared.kinds.Many.TheVariants as many
 use Rattle.lido_base.specs.declared.value.ValueType.{ValueType}
@@ -37,6 +37,19 @@ first_of (Some e) later = Some e
 abbrev pub unless_fault : Tree Plain → Option TreeFault → Result (Tree Plain) TreeFault
 unless_fault t None = Ok t
 unless_fault t (Some e) = Err e
+
+-- The items go behind those of node p
+abbrev pub add_items : {V : Type 0} → Tree V → ℕ → List (Item V) → Tree V
+add_items [] p more = []
+add_items (n ∷ t) zero more = record n { items = n.items ++ more } ∷ t
+add_items (n ∷ t) (suc p) more = n ∷ add_items t p more
+
+-- An open node: its number, its shape, the children that are still to come, and the place of its closing bracket
+pub record Frame (S : Type 0) : Type 0 where
+  pub at : ℕ
+  pub shape : S
+  pub rest : Forest
+  pub close : ℕ
 
 -- A grammar, as far as reading a tree asks: the shape that a name names, if it names one; the number of a shape's rule; the shape
 -- of node 0; the shapes, and the types of terminals, that child k of a node may have, counted from 0; and whether so many children
@@ -91,3 +104,19 @@ module _ {S : Type 0} (g : Asked S) where
         then unless_fault (record { rule = g.rule x; parent = None; place = 0; items = items 1 below } ∷ nodes 1 0 0 below) (fault_among x 0 1 below end)
         else Err (fault.WrongRoot name_at)
   ]
+
+  -- What a node is refused for, beside what stands below and behind it.
+  abbrev pub node_fault : S → ℕ → ℕ → ℕ → ℕ → List ℕ → Option TreeFault
+  node_fault s k n at name_at name = elim (g.named name) [
+    | None ↦ Some (fault.UnknownRule name_at)
+    | Some x ↦ if g.takes s k x then (if nat_le most_nodes n then Some (fault.TooMany many.Nodes) else None) else Some (fault.WrongChild at)
+  ]
+
+  -- The table with the siblings as further children of node p.
+  abbrev pub fill : Tree Plain → ℕ → Forest → Tree Plain
+  fill t p f = add_items t p (items (length t) f) ++ nodes (length t) p (places t p) f
+
+  -- What comes of a table, where these nodes are open.
+  abbrev pub resume : List (Frame S) → Tree Plain → Result (Tree Plain) TreeFault
+  resume [] t = Ok t
+  resume (f ∷ fs) t = elim (fault_among f.shape (places t f.at) (length t) f.rest f.close) [ None ↦ resume fs (fill t f.at f.rest) | Some e ↦ Err e ]

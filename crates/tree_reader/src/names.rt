@@ -1,5 +1,5 @@
 //! The shapes of a grammar by the names of their rules.
-ghost use Rattle.std.specs.Prelude.{◌≡◌, ◌≢◌, ◌<◌, ℕ, true, List, Option, None, Some, length, slice_index_or, IfOk, IfErr};
+ghost use Rattle.std.specs.Prelude.{◌≡◌, ◌≢◌, ◌<◌, ℕ, true, List, Option, None, Some, length, slice_index_or, IfOk, IfErr, IfSome};
 ghost use Rattle.lido_base.specs.Texts.{IsDistinctTexts};
 ghost use Rattle.lido_lexer.specs.Lexing.{Gains};
 ghost use Rattle.tree_reader.specs.Asking.{IsNameTable, first_from, has_name, is_called, or_last};
@@ -58,6 +58,7 @@ pub fn find_named(
     requires { IsNameTable flat.now.rules flat.now.shapes (length names.now) names.now }
     ensures found { IfOk result (λ found. (texts : List (List ℕ)) → Gains texts strings.old → length texts ≡ length names.now
         → found ≡ first_from 0 (has_name flat.now.symbols flat.now.rules flat.now.shapes flat.now.root texts name.now) flat.now.shapes) }
+    ensures inside { IfOk result (λ found. IfSome found (λ k. k < length flat.now.shapes)) }
     ensures memory { IfErr result (λ e. e ≡ TreeFault.Memory) }
     ensures kept { Gains strings.old strings.new }
     ensures distinct { IsDistinctTexts strings.new }

@@ -1,0 +1,65 @@
+-- A tree that is written in part.
+use Rattle.std.specs.Prelude.{◌≡◌, ◌<◌, ◌≤◌, ⊤, ℕ, Bool, false, List, [], ◌∷◌, ◌++◌, length, Option, None, Some, Result}
+use Rattle.lido_base.specs.Plain.{Plain, plain_tree}
+use Rattle.lido_base.specs.Tree.{Tree, parent_of, places}
+use Rattle.lido_base.specs.declared.value.Value.{Value}
+use Rattle.tree_store.specs.Growth.{IsOpen}
+use Rattle.tree_store.specs.declared.fault.TreeFault.{TreeFault}
+use Rattle.tree_store.specs.declared.fault.TreeFault.TheVariants as fault
+use Rattle.tree_reader.specs.Language.{parts_of, Forest}
+use Rattle.tree_reader.specs.WrittenTrees.{Asked, Frame, resume}
+use Rattle.tree_reader.specs.declared.part.Part.{Part}
+use Rattle.tree_reader.specs.declared.part.Part.TheVariants as part
+use Rattle.tree_reader.specs.declared.writer.Open.{Open}
+
+-- The fault tells of the place where the test fails; or memory ran out.
+abbrev pub RefusesIf : Bool → ℕ → TreeFault → Type 0
+RefusesIf test at (fault.WrongChild place) = (place ≡ at) × (test ≡ false)
+RefusesIf test at fault.Memory = ⊤
+RefusesIf test at _ = ⊥
+
+-- The fault is this one; or memory ran out.
+abbrev pub StopsAt : Option TreeFault → TreeFault → Type 0
+StopsAt o fault.Memory = ⊤
+StopsAt o e = o ≡ Some e
+
+-- ---- the open nodes
+
+-- The number of the innermost of these nodes.
+abbrev pub innermost : List Open → Option ℕ
+innermost [] = None
+innermost (o ∷ os) = Some o.node
+
+-- The nodes are open ones of a tree, from the innermost on: each has a smaller number than the one before, which is its child, and
+-- as many children as it says, of which there are at most `most`; and each has one of so many shapes.
+abbrev pub AreOpen : Tree Value → ℕ → ℕ → ℕ → List Open → Type 0
+AreOpen t shapes most bound [] = ⊤
+AreOpen t shapes most bound (o ∷ os) = (o.node < bound) × (o.has ≡ places t o.node) × (o.has ≤ most) × (o.shape < shapes) × (parent_of t o.node ≡ innermost os) × AreOpen t shapes most o.node os
+
+-- The innermost node can get items.
+abbrev pub CanGrow : Tree Value → List Open → Type 0
+CanGrow t [] = ⊤
+CanGrow t (o ∷ os) = IsOpen t o.node
+
+-- A stack of the outer nodes, the outermost first.
+abbrev pub IsStack : List Open → List Open → Type 0
+IsStack outer [] = outer ≡ []
+IsStack outer (o ∷ os) = (first : List Open) × (outer ≡ first ++ o ∷ []) × IsStack first os
+
+-- The innermost node, if one is open, and the stack of the others.
+abbrev pub IsPath : Option Open → List Open → List Open → Type 0
+IsPath None outer os = (os ≡ []) × (outer ≡ [])
+IsPath (Some o) outer os = (rest : List Open) × (os ≡ o ∷ rest) × IsStack outer rest
+
+-- The parts are those that the open nodes still ask for.
+abbrev pub AreLeft : List Open → List (Frame ℕ) → List Part → Type 0
+AreLeft [] [] parts = parts ≡ []
+AreLeft (o ∷ os) (f ∷ fs) parts = (o.node ≡ f.at) × (o.shape ≡ f.shape) × (more : List Part) × (parts ≡ parts_of f.rest ++ (part.End f.close ∷ more)) × AreLeft os fs more
+AreLeft _ _ parts = ⊥
+
+-- What is left of the parts makes of the tree what the whole text means.
+pub record MakesOf (g : Asked ℕ) (texts : List (List ℕ)) (t : Tree Value) (os : List Open) (parts : List Part) (answer : Result (Tree Plain) TreeFault) : Type 0 where
+  pub frames : List (Frame ℕ)
+  pub left : AreLeft os frames parts
+  pub comes : answer ≡ resume g frames (plain_tree texts t)
+  pub stable : (more : List (List ℕ)) → plain_tree (texts ++ more) t ≡ plain_tree texts t

@@ -1,0 +1,122 @@
+//! The parts of a tree's text become its written tree, or its first fault.
+ghost use Rattle.std.specs.Prelude.{◌≡◌, ◌+◌, ◌-◌, ◌^◌, ◌<◌, ◌≤◌, ℕ, List, Option, None, Some, true, false, length, IfOk, OnOk, IfErr};
+ghost use Rattle.lido_base.specs.Texts.{IsDistinctTexts};
+ghost use Rattle.lido_base.specs.Tree.{Leaf, places, with_item, with_node};
+ghost use Rattle.lido_lexer.specs.Lexing.{Gains};
+ghost use Rattle.tree_store.specs.Growth.{IsOpen};
+ghost use Rattle.tree_reader.specs.Asking.{IsNameTable, asked, shape_at};
+ghost use Rattle.tree_reader.specs.WrittenTrees.{Asked, node_fault};
+ghost use Rattle.tree_reader.specs.Writing.{RefusesIf, StopsAt};
+
+use crate::asking::{is_enough, may_be_node, may_be_value};
+use crate::names::find_named;
+use flat_grammar::{Flat, Shape};
+use lido_base::{Many, NodeId, Strings, Value, ValueType};
+use tree_store::{Tree, TreeFault};
+
+/// The most nodes that a written tree may have.
+const MOST_NODES: u32 = 1_048_576;
+
+/// A node whose closing bracket is still to come.
+#[derive(Clone, Copy)]
+struct Open {
+    /// Its number.
+    node: u32,
+    /// Its shape, by its place among the shapes.
+    shape: usize,
+    /// How many children it has.
+    has: u32,
+}
+
+/// The shape of this place.
+fn shape_at(flat: &Flat, k: usize) -> &Shape
+    requires { k < length flat.now.shapes }
+    ensures { result.now ≡ shape_at flat.now.shapes k }
+{
+    &flat.shapes.as_slice()[k]
+}
+
+/// Adds a terminal to an open node.
+fn add_leaf(
+    flat: &Flat,
+    tree: &mut Tree,
+    parent: Open,
+    at: u32,
+    ty: ValueType,
+    value: Value,
+) -> Result<Open, TreeFault>
+    requires shape { parent.shape < length flat.now.shapes }
+    requires is_open { IsOpen tree.old parent.node }
+    requires has { parent.has ≡ places tree.old parent.node }
+    requires few { parent.has < 2 ^ 32 - 1 }
+    ensures grown { IfOk result (λ now. now ≡ record parent { has = parent.has + 1 }) }
+    ensures taken { (texts : List (List ℕ)) → OnOk result ((asked flat.now.symbols flat.now.rules flat.now.shapes flat.now.root texts).takes_value parent.shape parent.has ty ≡ true) }
+    ensures added { OnOk result (tree.new ≡ with_item tree.old parent.node (Leaf value)) }
+    ensures refused { (texts : List (List ℕ)) → IfErr result (λ e. RefusesIf ((asked flat.now.symbols flat.now.rules flat.now.shapes flat.now.root texts).takes_value parent.shape parent.has ty) at e) }
+{
+    if !may_be_value(flat, shape_at(flat, parent.shape), parent.has as usize, ty) {
+        return Err(TreeFault::WrongChild { at });
+    }
+    match tree.add_terminal(NodeId(parent.node), value) {
+        Ok(()) => Ok(Open {
+            has: parent.has + 1,
+            ..parent
+        }),
+        Err(_) => Err(TreeFault::Memory),
+    }
+}
+
+/// Whether an open node may be closed here.
+fn close(flat: &Flat, parent: Open, at: u32) -> Result<(), TreeFault>
+    requires shape { parent.shape < length flat.now.shapes }
+    ensures enough { (texts : List (List ℕ)) → OnOk result ((asked flat.now.symbols flat.now.rules flat.now.shapes flat.now.root texts).is_enough parent.shape parent.has ≡ true) }
+    ensures refused { (texts : List (List ℕ)) → IfErr result (λ e. RefusesIf ((asked flat.now.symbols flat.now.rules flat.now.shapes flat.now.root texts).is_enough parent.shape parent.has) at e) }
+{
+    if is_enough(shape_at(flat, parent.shape), parent.has as usize) {
+        Ok(())
+    } else {
+        Err(TreeFault::WrongChild { at })
+    }
+}
+
+/// The shape that a child node of this name has, where it may stand there.
+fn child_shape(
+    flat: &Flat,
+    names: &[Option<usize>],
+    strings: &mut Strings,
+    count: u32,
+    parent: Open,
+    at: u32,
+    name_at: u32,
+    name: &[u8],
+) -> Result<usize, TreeFault>
+    requires shape { parent.shape < length flat.now.shapes }
+    requires table { IsNameTable flat.now.rules flat.now.shapes (length names.now) names.now }
+    ensures inside { IfOk result (λ k. k < length flat.now.shapes) }
+    ensures named { IfOk result (λ k. (texts : List (List ℕ)) → Gains texts strings.old → length texts ≡ length names.now
+        → (asked flat.now.symbols flat.now.rules flat.now.shapes flat.now.root texts).named name.now ≡ Some k) }
+    ensures fits { OnOk result ((texts : List (List ℕ)) → Gains texts strings.old → length texts ≡ length names.now
+        → node_fault (asked flat.now.symbols flat.now.rules flat.now.shapes flat.now.root texts) parent.shape parent.has count at name_at name.now ≡ None) }
+    ensures refused { IfErr result (λ e. (texts : List (List ℕ)) → Gains texts strings.old → length texts ≡ length names.now
+        → StopsAt (node_fault (asked flat.now.symbols flat.now.rules flat.now.shapes flat.now.root texts) parent.shape parent.has count at name_at name.now) e) }
+    ensures kept { Gains strings.old strings.new }
+    ensures distinct { IsDistinctTexts strings.new }
+{
+    let k = match find_named(flat, names, strings, name) {
+        Ok(Some(k)) => k,
+        Ok(None) => return Err(TreeFault::UnknownRule { at: name_at }),
+        Err(e) => return Err(e),
+    };
+    if !may_be_node(
+        flat,
+        shape_at(flat, parent.shape),
+        parent.has as usize,
+        shape_at(flat, k),
+    ) {
+        return Err(TreeFault::WrongChild { at });
+    }
+    if count >= MOST_NODES {
+        return Err(TreeFault::TooMany { what: Many::Nodes });
+    }
+    Ok(k)
+}

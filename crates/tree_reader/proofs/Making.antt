@@ -85,7 +85,7 @@ further : (t : Tree Value) (shapes most bound wider : ℕ) (os : List Open) → 
 further t shapes most bound wider [] less are = tt
 further t shapes most bound wider (o ∷ os) less (inside, has, few, shape, parent, rest) = (omega (arith, inside, less), has, few, shape, parent, rest)
 
-abbrev with_one_more : Open → Open
+abbrev pub with_one_more : Open → Open
 with_one_more o = record o { has = o.has + 1 }
 
 pub open_after_leaf : (t : Tree Value) (shapes most : ℕ) (o : Open) (os : List Open) (v : Value) → AreOpen t shapes most (length t) (o ∷ os)
@@ -146,7 +146,7 @@ frame_is f o rest at shape is =
     ∙ ap (λ (n : ℕ). record { at = o.node; shape = n; rest = f.rest; close = f.close }) (sym shape)
     ∙ ap (λ (l : Forest). record { at = o.node; shape = o.shape; rest = l; close = f.close }) is
 
-makes_grown : {g : Asked ℕ} {texts more : List (List ℕ)} {t : Tree Value} {os : List Open} {parts : List Part} {answer : Result (Tree Plain) TreeFault} → Gains texts more
+pub makes_grown : {g : Asked ℕ} {texts more : List (List ℕ)} {t : Tree Value} {os : List Open} {parts : List Part} {answer : Result (Tree Plain) TreeFault} → Gains texts more
     → MakesOf g texts t os parts answer → MakesOf g more t os parts answer
 makes_grown {g} {texts} {more} {t} gains m =
     let same : plain_tree more t ≡ plain_tree texts t = ap (λ (l : List (List ℕ)). plain_tree l t) gains.behind ∙ m.stable gains.added in
@@ -167,11 +167,11 @@ leaf_stays texts later t p v stable same =
     ∙ sym (plain_with_item texts t p (Leaf v))
 
 -- what is known of the innermost node
-record Innermost (g : Asked ℕ) (texts : List (List ℕ)) (t : Tree Value) (o : Open) (f : Frame ℕ) : Type 0 where
-  at : o.node ≡ f.at
-  shape : o.shape ≡ f.shape
-  inside : o.node < length t
-  has : o.has ≡ places t o.node
+pub record Innermost (g : Asked ℕ) (texts : List (List ℕ)) (t : Tree Value) (o : Open) (f : Frame ℕ) : Type 0 where
+  pub at : o.node ≡ f.at
+  pub shape : o.shape ≡ f.shape
+  pub inside : o.node < length t
+  pub has : o.has ≡ places t o.node
 
 module _ (g : Asked ℕ) (texts : List (List ℕ)) (t : Tree Value) (o : Open) (f : Frame ℕ) (fs : List (Frame ℕ)) (os : List Open) (known : Innermost g texts t o f) where
   abbrev P : Tree Plain
@@ -189,7 +189,7 @@ module _ (g : Asked ℕ) (texts : List (List ℕ)) (t : Tree Value) (o : Open) (
   same_frame : (rest : Forest) → f.rest ≡ rest → resume g (f ∷ fs) P ≡ resume g (with_rest rest ∷ fs) P
   same_frame rest is = ap (λ (x : Frame ℕ). resume g (x ∷ fs) P) (frame_is f o rest known.at known.shape is)
 
-  int_goes : (at : ℕ) (z : ℤ) (more later : List Part) (answer : Result (Tree Plain) TreeFault) (rest : Forest) → f.rest ≡ rest → part.Int at z ∷ more ≡ parts_of rest ++ (part.End f.close ∷ later)
+  pub int_goes : (at : ℕ) (z : ℤ) (more later : List Part) (answer : Result (Tree Plain) TreeFault) (rest : Forest) → f.rest ≡ rest → part.Int at z ∷ more ≡ parts_of rest ++ (part.End f.close ∷ later)
       → AreLeft os fs later → answer ≡ resume g (f ∷ fs) P → ((l : List (List ℕ)) → plain_tree (texts ++ l) t ≡ P) → g.takes_value o.shape o.has type.Int ≡ true
       → MakesOf g texts (with_item t o.node (Leaf (value.Int z))) (with_one_more o ∷ os) more answer
   int_goes at z more later answer none is e left comes stable takes = absurd (cc)
@@ -205,7 +205,7 @@ module _ (g : Asked ℕ) (texts : List (List ℕ)) (t : Tree Value) (o : Open) (
     stable = λ l. leaf_stays texts l t o.node (value.Int z) (stable l) refl;
   }
 
-  int_stops : (at : ℕ) (z : ℤ) (more later : List Part) (answer : Result (Tree Plain) TreeFault) (rest : Forest) → f.rest ≡ rest → part.Int at z ∷ more ≡ parts_of rest ++ (part.End f.close ∷ later)
+  pub int_stops : (at : ℕ) (z : ℤ) (more later : List Part) (answer : Result (Tree Plain) TreeFault) (rest : Forest) → f.rest ≡ rest → part.Int at z ∷ more ≡ parts_of rest ++ (part.End f.close ∷ later)
       → answer ≡ resume g (f ∷ fs) P → g.takes_value o.shape o.has type.Int ≡ false → answer ≡ Err (fault.WrongChild at)
   int_stops at z more later answer none is e comes takes = absurd (cc)
   int_stops at z more later answer (node from name_from name below end after) is e comes takes = absurd (cc)
@@ -214,7 +214,7 @@ module _ (g : Asked ℕ) (texts : List (List ℕ)) (t : Tree Value) (o : Open) (
       ∙ resume_no_int g o.node o.shape from y after f.close fs P (subst (λ (k : ℕ). g.takes_value o.shape k type.Int ≡ false) (sym counted) takes)
       ∙ ap (λ (n : ℕ). Err (fault.WrongChild n)) (let same : from ≡ at = cc in same)
 
-  text_goes : (at : ℕ) (text : List ℕ) (id : StrId) (more later : List Part) (answer : Result (Tree Plain) TreeFault) (rest : Forest) → f.rest ≡ rest
+  pub text_goes : (at : ℕ) (text : List ℕ) (id : StrId) (more later : List Part) (answer : Result (Tree Plain) TreeFault) (rest : Forest) → f.rest ≡ rest
       → part.Str at text ∷ more ≡ parts_of rest ++ (part.End f.close ∷ later) → slice_get texts id.0 ≡ Some text
       → AreLeft os fs later → answer ≡ resume g (f ∷ fs) P → ((l : List (List ℕ)) → plain_tree (texts ++ l) t ≡ P) → g.takes_value o.shape o.has type.Str ≡ true
       → MakesOf g texts (with_item t o.node (Leaf (value.Str id))) (with_one_more o ∷ os) more answer
@@ -232,7 +232,7 @@ module _ (g : Asked ℕ) (texts : List (List ℕ)) (t : Tree Value) (o : Open) (
     stable = λ l. leaf_stays texts l t o.node (value.Str id) (stable l) (ap (λ (x : Option (List ℕ)). Str (unwrap_or x [])) (kept texts l id.0 text there ∙ sym there));
   }
 
-  text_stops : (at : ℕ) (text : List ℕ) (more later : List Part) (answer : Result (Tree Plain) TreeFault) (rest : Forest) → f.rest ≡ rest → part.Str at text ∷ more ≡ parts_of rest ++ (part.End f.close ∷ later)
+  pub text_stops : (at : ℕ) (text : List ℕ) (more later : List Part) (answer : Result (Tree Plain) TreeFault) (rest : Forest) → f.rest ≡ rest → part.Str at text ∷ more ≡ parts_of rest ++ (part.End f.close ∷ later)
       → answer ≡ resume g (f ∷ fs) P → g.takes_value o.shape o.has type.Str ≡ false → answer ≡ Err (fault.WrongChild at)
   text_stops at z more later answer none is e comes takes = absurd (cc)
   text_stops at z more later answer (node from name_from name below end after) is e comes takes = absurd (cc)
@@ -241,7 +241,7 @@ module _ (g : Asked ℕ) (texts : List (List ℕ)) (t : Tree Value) (o : Open) (
       ∙ resume_no_text g o.node o.shape from y after f.close fs P (subst (λ (k : ℕ). g.takes_value o.shape k type.Str ≡ false) (sym counted) takes)
       ∙ ap (λ (n : ℕ). Err (fault.WrongChild n)) (let same : from ≡ at = cc in same)
 
-  end_goes : (at : ℕ) (more later : List Part) (answer : Result (Tree Plain) TreeFault) (rest : Forest) → f.rest ≡ rest → part.End at ∷ more ≡ parts_of rest ++ (part.End f.close ∷ later)
+  pub end_goes : (at : ℕ) (more later : List Part) (answer : Result (Tree Plain) TreeFault) (rest : Forest) → f.rest ≡ rest → part.End at ∷ more ≡ parts_of rest ++ (part.End f.close ∷ later)
       → AreLeft os fs later → answer ≡ resume g (f ∷ fs) P → ((l : List (List ℕ)) → plain_tree (texts ++ l) t ≡ P) → g.is_enough o.shape o.has ≡ true
       → MakesOf g texts t os more answer
   end_goes at more later answer (int from y after) is e left comes stable takes = absurd (cc)
@@ -254,7 +254,7 @@ module _ (g : Asked ℕ) (texts : List (List ℕ)) (t : Tree Value) (o : Open) (
     stable = stable;
   }
 
-  end_stops : (at : ℕ) (more later : List Part) (answer : Result (Tree Plain) TreeFault) (rest : Forest) → f.rest ≡ rest → part.End at ∷ more ≡ parts_of rest ++ (part.End f.close ∷ later)
+  pub end_stops : (at : ℕ) (more later : List Part) (answer : Result (Tree Plain) TreeFault) (rest : Forest) → f.rest ≡ rest → part.End at ∷ more ≡ parts_of rest ++ (part.End f.close ∷ later)
       → answer ≡ resume g (f ∷ fs) P → g.is_enough o.shape o.has ≡ false → answer ≡ Err (fault.WrongChild at)
   end_stops at more later answer (int from y after) is e comes takes = absurd (cc)
   end_stops at more later answer (node from name_from name below end after) is e comes takes = absurd (cc)
@@ -265,7 +265,7 @@ module _ (g : Asked ℕ) (texts : List (List ℕ)) (t : Tree Value) (o : Open) (
   node_stays : (l : List (List ℕ)) (rule : ℕ) → plain_tree (texts ++ l) t ≡ P → plain_tree (texts ++ l) (with_node t rule (Some o.node)) ≡ plain_tree texts (with_node t rule (Some o.node))
   node_stays l rule stable = plain_with_node (texts ++ l) t rule o.node ∙ ap (λ (u : Tree Plain). with_node u rule (Some o.node)) stable ∙ sym (plain_with_node texts t rule o.node)
 
-  node_goes : (at name_at : ℕ) (name : List ℕ) (new : Open) (more later : List Part) (answer : Result (Tree Plain) TreeFault) (rest : Forest) → f.rest ≡ rest
+  pub node_goes : (at name_at : ℕ) (name : List ℕ) (new : Open) (more later : List Part) (answer : Result (Tree Plain) TreeFault) (rest : Forest) → f.rest ≡ rest
       → part.Begin at name_at name ∷ more ≡ parts_of rest ++ (part.End f.close ∷ later)
       → AreLeft os fs later → answer ≡ resume g (f ∷ fs) P → ((l : List (List ℕ)) → plain_tree (texts ++ l) t ≡ P)
       → new.node ≡ length t → g.named name ≡ Some new.shape → node_fault g o.shape o.has (length t) at name_at name ≡ None
@@ -300,7 +300,7 @@ module _ (g : Asked ℕ) (texts : List (List ℕ)) (t : Tree Value) (o : Open) (
         stable = λ l. node_stays l (g.rule new.shape) (stable l);
       }
 
-  node_stops : (at name_at : ℕ) (name : List ℕ) (e' : TreeFault) (more later : List Part) (answer : Result (Tree Plain) TreeFault) (rest : Forest) → f.rest ≡ rest
+  pub node_stops : (at name_at : ℕ) (name : List ℕ) (e' : TreeFault) (more later : List Part) (answer : Result (Tree Plain) TreeFault) (rest : Forest) → f.rest ≡ rest
       → part.Begin at name_at name ∷ more ≡ parts_of rest ++ (part.End f.close ∷ later)
       → answer ≡ resume g (f ∷ fs) P → node_fault g o.shape o.has (length t) at name_at name ≡ Some e' → answer ≡ Err e'
   node_stops at name_at name e' more later answer none is e comes stops = absurd (cc)

@@ -1,7 +1,7 @@
 -- A tree that is written in part.
-use Rattle.std.specs.Prelude.{◌≡◌, ◌<◌, ◌≤◌, ⊤, ℕ, Bool, false, List, [], ◌∷◌, ◌++◌, length, Option, None, Some, Result}
+use Rattle.std.specs.Prelude.{◌≡◌, ◌<◌, ◌≤◌, ⊤, ℕ, Bool, false, List, [], ◌∷◌, ◌++◌, length, Option, None, Some, Result, Err}
 use Rattle.lido_base.specs.Plain.{Plain, plain_tree}
-use Rattle.lido_base.specs.Tree.{Tree, parent_of, places}
+use Rattle.lido_base.specs.Tree.{Tree, IsTree, parent_of, places}
 use Rattle.lido_base.specs.declared.value.Value.{Value}
 use Rattle.tree_store.specs.Growth.{IsOpen}
 use Rattle.tree_store.specs.declared.fault.TreeFault.{TreeFault}
@@ -63,3 +63,17 @@ pub record MakesOf (g : Asked ℕ) (texts : List (List ℕ)) (t : Tree Value) (o
   pub left : AreLeft os frames parts
   pub comes : answer ≡ resume g frames (plain_tree texts t)
   pub stable : (more : List (List ℕ)) → plain_tree (texts ++ more) t ≡ plain_tree texts t
+
+-- A tree is written in part: some of its nodes are open, and what is left of the parts makes of it what the whole text means.
+pub record IsWritten (g : Asked ℕ) (texts : List (List ℕ)) (t : Tree Value) (shapes most : ℕ) (next : Option Open) (outer : List Open) (parts : List Part) (answer : Result (Tree Plain) TreeFault) : Type 0 where
+  pub os : List Open
+  pub path : IsPath next outer os
+  pub are_open : AreOpen t shapes most (length t) os
+  pub can_grow : CanGrow t os
+  pub tree : IsTree t
+  pub makes : MakesOf g texts t os parts answer
+
+-- The whole text means this fault; or memory ran out.
+abbrev pub FailsAs : Result (Tree Plain) TreeFault → TreeFault → Type 0
+FailsAs answer fault.Memory = ⊤
+FailsAs answer e = answer ≡ Err e

@@ -1,17 +1,23 @@
 //! The parts of a tree's text become its written tree, or its first fault.
-ghost use Rattle.std.specs.Prelude.{◌≡◌, ◌+◌, ◌-◌, ◌^◌, ◌<◌, ◌≤◌, ℕ, List, Option, None, Some, true, false, length, IfOk, OnOk, IfErr};
+ghost use Rattle.std.specs.Prelude.{◌≡◌, ◌+◌, ◌-◌, ◌^◌, ◌<◌, ◌≤◌, ℕ, List, Option, None, Some, true, false, length, [], ◌∷◌, ◌++◌, option_to_list, Result, IfOk, OnOk, IfErr};
 ghost use Rattle.lido_base.specs.Texts.{IsDistinctTexts};
-ghost use Rattle.lido_base.specs.Tree.{Leaf, places, with_item, with_node};
+ghost use Rattle.lido_base.specs.Plain.{Plain};
+ghost use Rattle.lido_base.specs.Tree.{Tree as Table, IsTree, Leaf, places, with_item, with_node};
+ghost use Rattle.lido_base.specs.declared.value.Value.{Value as Terminal};
+ghost use Rattle.tree_store.specs.declared.fault.TreeFault.{TreeFault};
+ghost use Rattle.tree_reader.specs.declared.part.Part.{Part};
+ghost use Rattle.tree_reader.specs.declared.writer.Open.{Open as OpenNode};
 ghost use Rattle.lido_lexer.specs.Lexing.{Gains};
 ghost use Rattle.tree_store.specs.Growth.{IsOpen};
 ghost use Rattle.tree_reader.specs.Asking.{IsNameTable, asked, shape_at};
-ghost use Rattle.tree_reader.specs.WrittenTrees.{Asked, node_fault};
-ghost use Rattle.tree_reader.specs.Writing.{RefusesIf, StopsAt};
+ghost use Rattle.tree_reader.specs.WrittenTrees.{Asked, node_fault, most_nodes};
+ghost use Rattle.tree_reader.specs.Writing.{RefusesIf, StopsAt, IsWritten, FailsAs};
 
 use crate::asking::{is_enough, may_be_node, may_be_value};
 use crate::names::find_named;
+use crate::part::Part;
 use flat_grammar::{Flat, Shape};
-use lido_base::{Many, NodeId, Strings, Value, ValueType};
+use lido_base::{List, Many, NodeId, Strings, Value, ValueType};
 use tree_store::{Tree, TreeFault};
 
 /// The most nodes that a written tree may have.
@@ -52,6 +58,8 @@ fn add_leaf(
     ensures grown { IfOk result (λ now. now ≡ record parent { has = parent.has + 1 }) }
     ensures taken { (texts : List (List ℕ)) → OnOk result ((asked flat.now.symbols flat.now.rules flat.now.shapes flat.now.root texts).takes_value parent.shape parent.has ty ≡ true) }
     ensures added { OnOk result (tree.new ≡ with_item tree.old parent.node (Leaf value)) }
+    ensures tree { OnOk result (IsTree tree.new) }
+    ensures count { length tree.new ≡ length tree.old }
     ensures refused { (texts : List (List ℕ)) → IfErr result (λ e. RefusesIf ((asked flat.now.symbols flat.now.rules flat.now.shapes flat.now.root texts).takes_value parent.shape parent.has ty) at e) }
 {
     if !may_be_value(flat, shape_at(flat, parent.shape), parent.has as usize, ty) {
@@ -93,6 +101,7 @@ fn child_shape(
     requires shape { parent.shape < length flat.now.shapes }
     requires table { IsNameTable flat.now.rules flat.now.shapes (length names.now) names.now }
     ensures inside { IfOk result (λ k. k < length flat.now.shapes) }
+    ensures few { OnOk result (count < most_nodes) }
     ensures named { IfOk result (λ k. (texts : List (List ℕ)) → Gains texts strings.old → length texts ≡ length names.now
         → (asked flat.now.symbols flat.now.rules flat.now.shapes flat.now.root texts).named name.now ≡ Some k) }
     ensures fits { OnOk result ((texts : List (List ℕ)) → Gains texts strings.old → length texts ≡ length names.now
@@ -119,4 +128,137 @@ fn child_shape(
         return Err(TreeFault::TooMany { what: Many::Nodes });
     }
     Ok(k)
+}
+
+/// A number stands among the children of an open node, which is as it is from then on.
+fn write_int(
+    flat: &Flat,
+    tree: &mut Tree,
+    parent: Open,
+    at: u32,
+    value: i64,
+) -> Result<Open, TreeFault>
+    requires shape { parent.shape < length flat.now.shapes }
+    requires is_open { IsOpen tree.old parent.node }
+    requires has { parent.has ≡ places tree.old parent.node }
+    requires few { parent.has < 2 ^ 32 - 1 }
+    ensures goes { IfOk result (λ now. (names texts : List (List ℕ)) (most : ℕ) (outer : List OpenNode) (more : List Part) (answer : Result (Table Plain) TreeFault)
+        → IsWritten (asked flat.now.symbols flat.now.rules flat.now.shapes flat.now.root names) texts tree.old (length flat.now.shapes) most (Some parent) outer (Part.Int at value ∷ more) answer
+        → IsWritten (asked flat.now.symbols flat.now.rules flat.now.shapes flat.now.root names) texts tree.new (length flat.now.shapes) (most + 1) (Some now) outer more answer) }
+    ensures refused { IfErr result (λ e. (names texts : List (List ℕ)) (most : ℕ) (outer : List OpenNode) (more : List Part) (answer : Result (Table Plain) TreeFault)
+        → IsWritten (asked flat.now.symbols flat.now.rules flat.now.shapes flat.now.root names) texts tree.old (length flat.now.shapes) most (Some parent) outer (Part.Int at value ∷ more) answer
+        → FailsAs answer e) }
+    ensures count { length tree.new ≡ length tree.old }
+{
+    add_leaf(flat, tree, parent, at, ValueType::Int, Value::Int(value))
+}
+
+/// A string stands among the children of an open node, which is as it is from then on.
+fn write_text(
+    flat: &Flat,
+    strings: &mut Strings,
+    tree: &mut Tree,
+    parent: Open,
+    at: u32,
+    text: &[u8],
+) -> Result<Open, TreeFault>
+    requires shape { parent.shape < length flat.now.shapes }
+    requires is_open { IsOpen tree.old parent.node }
+    requires has { parent.has ≡ places tree.old parent.node }
+    requires few { parent.has < 2 ^ 32 - 1 }
+    ensures goes { IfOk result (λ now. (names : List (List ℕ)) (most : ℕ) (outer : List OpenNode) (more : List Part) (answer : Result (Table Plain) TreeFault)
+        → IsWritten (asked flat.now.symbols flat.now.rules flat.now.shapes flat.now.root names) strings.old tree.old (length flat.now.shapes) most (Some parent) outer (Part.Str at text.now ∷ more) answer
+        → IsWritten (asked flat.now.symbols flat.now.rules flat.now.shapes flat.now.root names) strings.new tree.new (length flat.now.shapes) (most + 1) (Some now) outer more answer) }
+    ensures refused { IfErr result (λ e. (names : List (List ℕ)) (most : ℕ) (outer : List OpenNode) (more : List Part) (answer : Result (Table Plain) TreeFault)
+        → IsWritten (asked flat.now.symbols flat.now.rules flat.now.shapes flat.now.root names) strings.old tree.old (length flat.now.shapes) most (Some parent) outer (Part.Str at text.now ∷ more) answer
+        → FailsAs answer e) }
+    ensures kept { Gains strings.old strings.new }
+    ensures distinct { IsDistinctTexts strings.new }
+    ensures count { length tree.new ≡ length tree.old }
+{
+    match strings.intern(text) {
+        Ok(id) => add_leaf(flat, tree, parent, at, ValueType::Str, Value::Str(id)),
+        Err(_) => Err(TreeFault::Memory),
+    }
+}
+
+/// Takes the last of the open nodes, if there is one.
+fn pop(outer: &mut List<Open>) -> Option<Open>
+    ensures last { outer.old ≡ outer.new ++ option_to_list result }
+    ensures empty { result ≡ None → outer.old ≡ [] }
+{
+    outer.items.pop()
+}
+
+/// An open node is closed: the one around it is the innermost from then on.
+fn write_end(
+    flat: &Flat,
+    outer: &mut List<Open>,
+    parent: Open,
+    at: u32,
+) -> Result<Option<Open>, TreeFault>
+    requires shape { parent.shape < length flat.now.shapes }
+    ensures goes { IfOk result (λ next. (names texts : List (List ℕ)) (t : Table Terminal) (most : ℕ) (more : List Part) (answer : Result (Table Plain) TreeFault)
+        → IsWritten (asked flat.now.symbols flat.now.rules flat.now.shapes flat.now.root names) texts t (length flat.now.shapes) most (Some parent) outer.old (Part.End at ∷ more) answer
+        → IsWritten (asked flat.now.symbols flat.now.rules flat.now.shapes flat.now.root names) texts t (length flat.now.shapes) (most + 1) next outer.new more answer) }
+    ensures refused { IfErr result (λ e. (names texts : List (List ℕ)) (t : Table Terminal) (most : ℕ) (more : List Part) (answer : Result (Table Plain) TreeFault)
+        → IsWritten (asked flat.now.symbols flat.now.rules flat.now.shapes flat.now.root names) texts t (length flat.now.shapes) most (Some parent) outer.old (Part.End at ∷ more) answer
+        → FailsAs answer e) }
+{
+    match close(flat, parent, at) {
+        Ok(()) => Ok(pop(outer)),
+        Err(e) => Err(e),
+    }
+}
+
+/// A node begins among the children of an open node, which is as it is from then on and has the new one inside it.
+fn write_node(
+    flat: &Flat,
+    names: &[Option<usize>],
+    strings: &mut Strings,
+    tree: &mut Tree,
+    outer: &mut List<Open>,
+    parent: Open,
+    at: u32,
+    name_at: u32,
+    name: &[u8],
+) -> Result<Open, TreeFault>
+    requires table { IsNameTable flat.now.rules flat.now.shapes (length names.now) names.now }
+    requires shape { parent.shape < length flat.now.shapes }
+    requires is_open { IsOpen tree.old parent.node }
+    requires has { parent.has ≡ places tree.old parent.node }
+    requires few { parent.has < 2 ^ 32 - 1 }
+    requires few_nodes { length tree.old ≤ most_nodes }
+    ensures goes { IfOk result (λ now. (texts : List (List ℕ)) → Gains texts strings.old → length texts ≡ length names.now
+        → (most : ℕ) (more : List Part) (answer : Result (Table Plain) TreeFault)
+        → IsWritten (asked flat.now.symbols flat.now.rules flat.now.shapes flat.now.root texts) strings.old tree.old (length flat.now.shapes) most (Some parent) outer.old (Part.Begin at name_at name.now ∷ more) answer
+        → IsWritten (asked flat.now.symbols flat.now.rules flat.now.shapes flat.now.root texts) strings.new tree.new (length flat.now.shapes) (most + 1) (Some now) outer.new more answer) }
+    ensures refused { IfErr result (λ e. (texts : List (List ℕ)) → Gains texts strings.old → length texts ≡ length names.now
+        → (most : ℕ) (more : List Part) (answer : Result (Table Plain) TreeFault)
+        → IsWritten (asked flat.now.symbols flat.now.rules flat.now.shapes flat.now.root texts) strings.old tree.old (length flat.now.shapes) most (Some parent) outer.old (Part.Begin at name_at name.now ∷ more) answer
+        → FailsAs answer e) }
+    ensures kept { Gains strings.old strings.new }
+    ensures distinct { IsDistinctTexts strings.new }
+    ensures few_nodes { OnOk result (length tree.new ≤ most_nodes) }
+{
+    let shape = match child_shape(flat, names, strings, tree.len(), parent, at, name_at, name) {
+        Ok(shape) => shape,
+        Err(e) => return Err(e),
+    };
+    let grown = Open {
+        has: parent.has + 1,
+        ..parent
+    };
+    let rule = shape_at(flat, shape).rule;
+    let Ok(number) = tree.add_node(rule, Some(NodeId(parent.node))) else {
+        return Err(TreeFault::Memory);
+    };
+    match outer.push(grown) {
+        Ok(()) => Ok(Open {
+            node: number.0,
+            shape,
+            has: 0,
+        }),
+        Err(_) => Err(TreeFault::Memory),
+    }
 }

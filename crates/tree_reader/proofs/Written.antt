@@ -1,5 +1,7 @@
 -- A tree that is written in part gets one part more.
-use Rattle.std.proofs.Common.{◌≡◌, ◌≢◌, ℕ, ℤ, ◌+◌, ◌<◌, ◌≤◌, Bool, true, false, List, [], ◌∷◌, ◌++◌, length, Some, None, Option, Result, Ok, Err, refl, ap, sym, ◌∙◌, subst, arith, suc, zero, length-append, append-nil}
+use Rattle.std.proofs.Common.{◌≡◌, ◌≢◌, ℕ, ℤ, ◌+◌, ◌<◌, ◌≤◌, ◌⊎◌, inl, Bool, true, false, true≢false, if◌then◌else◌, List, [], ◌∷◌, ◌++◌, length, Some, None, Option, Result, Ok, Err, refl, ap, sym, ◌∙◌, subst, arith, suc, zero, length-append, append-nil, add-one, drop, get_or}
+use Rattle.std.proofs.Math.Seq.{drop-cons}
+use Rattle.std.proofs.lemmas.List.{drop_all}
 use Rattle.std.specs.Prelude.{slice_get, option_to_list, IfOk, OnOk, IfErr}
 use Rattle.lido_base.specs.Plain.{Plain, plain_tree}
 use Rattle.lido_base.specs.Tree.{Tree, Leaf, IsTree, with_item, with_node}
@@ -13,9 +15,9 @@ use Rattle.tree_store.specs.declared.fault.TreeFault.{TreeFault}
 use Rattle.tree_store.specs.declared.fault.TreeFault.TheVariants as fault
 use Rattle.tree_store.proofs.OpenLemmas.{open_kept, open_added}
 use Rattle.tree_store.proofs.GrowthLemmas.{length-with_item}
-use Rattle.tree_reader.specs.Language.{parts_of}
-use Rattle.tree_reader.specs.WrittenTrees.{Asked, Frame, resume, node_fault}
-use Rattle.tree_reader.specs.Writing.{AreOpen, CanGrow, IsStack, IsPath, AreLeft, MakesOf, IsWritten, FailsAs, RefusesIf, StopsAt}
+use Rattle.tree_reader.specs.Language.{Forest, none, node, int, string, parts_of}
+use Rattle.tree_reader.specs.WrittenTrees.{Asked, Frame, resume, node_fault, unless_fault, items, nodes, fault_among, meaning}
+use Rattle.tree_reader.specs.Writing.{AreOpen, CanGrow, IsStack, IsPath, AreLeft, MakesOf, IsWritten, FailsAs, RefusesIf, StopsAt, MeansFault}
 use Rattle.tree_reader.specs.declared.part.Part.{Part}
 use Rattle.tree_reader.specs.declared.part.Part.TheVariants as part
 use Rattle.tree_reader.specs.declared.writer.Open.{Open}
@@ -210,3 +212,94 @@ ok_of (Err e) p a b c f = p
 pub err_of : {X E N : Type 0} {P : N → E → Type 0} {Q : E → Type 0} (r : Result X E) → N → ((n : N) → IfErr r (P n)) → ((e : E) → ((n : N) → P n e) → Q e) → IfErr r Q
 err_of (Ok x) n p f = p n
 err_of (Err e) n p f = f e p
+
+pub part_is : {g : Asked ℕ} {texts : List (List ℕ)} {t : Tree Value} {shapes most : ℕ} {next : Option Open} {outer : List Open} {p q : Part} {more : List Part} {answer : Result (Tree Plain) TreeFault} → p ≡ q
+    → IsWritten g texts t shapes most next outer (p ∷ more) answer → IsWritten g texts t shapes most next outer (q ∷ more) answer
+part_is {g} {texts} {t} {shapes} {most} {next} {outer} {more = more} {answer = answer} e w = subst (λ (x : Part). IsWritten g texts t shapes most next outer (x ∷ more) answer) e w
+
+-- ---- the first node
+
+same_answer : (t : Tree Plain) (o : Option TreeFault) → unless_fault t o ≡ elim o as (λ _. Result (Tree Plain) TreeFault) [ None ↦ Ok t | Some e ↦ Err e ]
+same_answer t None = refl
+same_answer t (Some e) = refl
+
+root_chosen : {X : Type 0} (b : Bool) (x y : X) → b ≡ true → (if b then x else y) ≡ x
+root_chosen true x y is = refl
+root_chosen false x y is = absurd (true≢false (sym is))
+
+first_at_zero : (g : Asked ℕ) (texts : List (List ℕ)) (shapes name_at : ℕ) (name : List ℕ) (shape : ℕ) (below : Forest) (end : ℕ)
+    → IsTree (with_node {V = Value} [] (g.rule shape) None) → shape < shapes → g.named name ≡ Some shape → g.is_root shape ≡ true
+    → IsWritten g texts (with_node [] (g.rule shape) None) shapes 0 (Some (record { node = 0; shape = shape; has = 0 })) [] (parts_of below ++ part.End end ∷ []) (meaning g name_at name below end)
+first_at_zero g texts shapes name_at name shape below end tree fits named root =
+    let table : Tree Plain = record { rule = g.rule shape; parent = None; place = 0; items = items g 1 below } ∷ nodes g 1 0 0 below in
+    record {
+      os = record { node = 0; shape = shape; has = 0 } ∷ [];
+      path = ([], refl, refl);
+      are_open = (omega arith, refl, omega arith, fits, refl, tt);
+      can_grow = (0, refl, inl refl);
+      tree = tree;
+      makes = record {
+        frames = record { at = 0; shape = shape; rest = below; close = end } ∷ [];
+        left = (refl, refl, [], refl, refl);
+        comes = ap (λ (o : Option ℕ). elim o as (λ _. Result (Tree Plain) TreeFault) [
+          | None ↦ Err (fault.UnknownRule name_at)
+          | Some x ↦ if g.is_root x
+              then unless_fault (record { rule = g.rule x; parent = None; place = 0; items = items g 1 below } ∷ nodes g 1 0 0 below) (fault_among g x 0 1 below end)
+              else Err (fault.WrongRoot name_at)
+        ]) named
+            ∙ root_chosen (g.is_root shape) (unless_fault table (fault_among g shape 0 1 below end)) (Err (fault.WrongRoot name_at)) root
+            ∙ same_answer table (fault_among g shape 0 1 below end);
+        stable = λ more. refl;
+      };
+    }
+
+pub first_written : (g : Asked ℕ) (texts : List (List ℕ)) (t : Tree Value) (shapes name_at : ℕ) (name : List ℕ) (o : Open) (below : Forest) (end : ℕ)
+    → t ≡ with_node [] (g.rule o.shape) None → IsTree t → o.node ≡ 0 → o.has ≡ 0 → o.shape < shapes → g.named name ≡ Some o.shape → g.is_root o.shape ≡ true
+    → IsWritten g texts t shapes 0 (Some o) [] (parts_of below ++ part.End end ∷ []) (meaning g name_at name below end)
+first_written g texts t shapes name_at name o below end is tree number empty fits named root =
+    let same : o ≡ record { node = 0; shape = o.shape; has = 0 } = ap (λ (n : ℕ). record { node = n; shape = o.shape; has = o.has }) number ∙ ap (λ (n : ℕ). record { node = 0; shape = o.shape; has = n }) empty in
+    subst (λ (x : Open). IsWritten g texts t shapes 0 (Some x) [] (parts_of below ++ part.End end ∷ []) (meaning g name_at name below end)) (sym same)
+    (subst (λ (u : Tree Value). IsWritten g texts u shapes 0 (Some (record { node = 0; shape = o.shape; has = 0 })) [] (parts_of below ++ part.End end ∷ []) (meaning g name_at name below end)) (sym is)
+    (first_at_zero g texts shapes name_at name o.shape below end (subst IsTree is tree) fits named root))
+
+-- ---- the loop
+
+no_parts : (f : Forest) (close : ℕ) (more : List Part) → [] ≡ parts_of f ++ (part.End close ∷ more) → ⊥
+no_parts none close more e = cc
+no_parts (node at name_at name below end after) close more e = cc
+no_parts (int at z after) close more e = cc
+no_parts (string at text after) close more e = cc
+
+nothing_open : (os : List Open) (frames : List (Frame ℕ)) → AreLeft os frames [] → frames ≡ []
+nothing_open [] [] left = refl
+nothing_open [] (f ∷ fs) left = absurd left
+nothing_open (o ∷ os) [] left = absurd left
+nothing_open (o ∷ os) (f ∷ fs) (at, shape, more, e, left) = absurd (no_parts f.rest f.close more e)
+
+pub all_written : {g : Asked ℕ} {texts : List (List ℕ)} {t : Tree Value} {shapes most : ℕ} {next : Option Open} {outer : List Open} {answer : Result (Tree Plain) TreeFault}
+    → IsWritten g texts t shapes most next outer [] answer → answer ≡ Ok (plain_tree texts t)
+all_written {g} {texts} {t} w = w.makes.comes ∙ ap (λ (fs : List (Frame ℕ)). resume g fs (plain_tree texts t)) (nothing_open w.os w.makes.frames w.makes.left)
+
+pub next_part : {g : Asked ℕ} {texts : List (List ℕ)} {t : Tree Value} {shapes most : ℕ} {next : Option Open} {outer : List Open} {answer : Result (Tree Plain) TreeFault}
+    → (rest : List Part) (i : ℕ) (p : Part) (o : Open) → i < length rest → p ≡ get_or rest i p → next ≡ Some o → IsWritten g texts t shapes most next outer (drop i rest) answer
+    → IsWritten g texts t shapes most (Some o) outer (p ∷ drop (i + 1) rest) answer
+next_part {g} {texts} {t} {shapes} {most} {next} {outer} {answer} rest i p o less is open_is w =
+    let split : drop i rest ≡ p ∷ drop (i + 1) rest = drop_is rest i p less ∙ ap (λ (x : Part). x ∷ drop (i + 1) rest) (sym is) in
+    subst (λ (n : Option Open). IsWritten g texts t shapes most n outer (p ∷ drop (i + 1) rest) answer) open_is
+    (subst (λ (l : List Part). IsWritten g texts t shapes most next outer l answer) split w)
+  where
+    drop_is : (xs : List Part) (k : ℕ) (d : Part) → k < length xs → drop k xs ≡ get_or xs k d ∷ drop (k + 1) xs
+    drop_is xs k d low = rw (add-one, drop-cons xs k d) refl
+
+pub no_more_parts : {g : Asked ℕ} {texts : List (List ℕ)} {t : Tree Value} {shapes most : ℕ} {next : Option Open} {outer : List Open} {answer : Result (Tree Plain) TreeFault}
+    → (rest : List Part) (i : ℕ) → length rest ≤ i → IsWritten g texts t shapes most next outer (drop i rest) answer → IsWritten g texts t shapes most next outer [] answer
+no_more_parts {g} {texts} {t} {shapes} {most} {next} {outer} {answer} rest i past w = subst (λ (l : List Part). IsWritten g texts t shapes most next outer l answer) (drop_all i rest past) w
+
+pub means : (g : Asked ℕ) (parts : List Part) (at name_at : ℕ) (name : List ℕ) (below : Forest) (end : ℕ) (e : TreeFault) → parts ≡ parts_of (node at name_at name below end none)
+    → FailsAs (meaning g name_at name below end) e → MeansFault g parts e
+means g parts at name_at name below end (fault.TreeSyntax place) is fails = (at, name_at, name, below, end, is, fails)
+means g parts at name_at name below end (fault.UnknownRule place) is fails = (at, name_at, name, below, end, is, fails)
+means g parts at name_at name below end (fault.WrongRoot place) is fails = (at, name_at, name, below, end, is, fails)
+means g parts at name_at name below end (fault.WrongChild place) is fails = (at, name_at, name, below, end, is, fails)
+means g parts at name_at name below end (fault.TooMany what) is fails = (at, name_at, name, below, end, is, fails)
+means g parts at name_at name below end fault.Memory is fails = tt

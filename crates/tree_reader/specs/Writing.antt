@@ -6,8 +6,8 @@ use Rattle.lido_base.specs.declared.value.Value.{Value}
 use Rattle.tree_store.specs.Growth.{IsOpen}
 use Rattle.tree_store.specs.declared.fault.TreeFault.{TreeFault}
 use Rattle.tree_store.specs.declared.fault.TreeFault.TheVariants as fault
-use Rattle.tree_reader.specs.Language.{parts_of, Forest}
-use Rattle.tree_reader.specs.WrittenTrees.{Asked, Frame, resume}
+use Rattle.tree_reader.specs.Language.{parts_of, Forest, node, none}
+use Rattle.tree_reader.specs.WrittenTrees.{Asked, Frame, resume, meaning}
 use Rattle.tree_reader.specs.declared.part.Part.{Part}
 use Rattle.tree_reader.specs.declared.part.Part.TheVariants as part
 use Rattle.tree_reader.specs.declared.writer.Open.{Open}
@@ -77,3 +77,16 @@ pub record IsWritten (g : Asked ℕ) (texts : List (List ℕ)) (t : Tree Value) 
 abbrev pub FailsAs : Result (Tree Plain) TreeFault → TreeFault → Type 0
 FailsAs answer fault.Memory = ⊤
 FailsAs answer e = answer ≡ Err e
+
+-- The parts are those of a node, and this is what it means.
+abbrev pub IsMeaning : Asked ℕ → List Part → Result (Tree Plain) TreeFault → Type 0
+IsMeaning g parts r = (at : ℕ) × (name_at : ℕ) × (name : List ℕ) × (below : Forest) × (end : ℕ) × (parts ≡ parts_of (node at name_at name below end none)) × (meaning g name_at name below end ≡ r)
+
+-- The parts mean this fault; or memory ran out.
+abbrev pub MeansFault : Asked ℕ → List Part → TreeFault → Type 0
+MeansFault g parts fault.Memory = ⊤
+MeansFault g parts e = IsMeaning g parts (Err e)
+
+-- The parts are those of a node of this name, which stands at this place, and others are behind the first.
+abbrev pub IsFirst : List Part → ℕ → List ℕ → List Part → Type 0
+IsFirst parts name_at name rest = (at : ℕ) × (below : Forest) × (end : ℕ) × (parts ≡ parts_of (node at name_at name below end none)) × (rest ≡ parts_of below ++ (part.End end ∷ []))

@@ -1,23 +1,18 @@
 -- What the next byte makes of a part that is begun.
-use Rattle.std.proofs.Common.{◌≡◌, ◌≢◌, ℕ, ℤ, ◌+◌, ◌-◌, ◌*◌, ◌<◌, ◌≤◌, ◌↔◌, ◌⊎◌, inl, inr, ⊎_elim, Bool, true, false, List, [], ◌∷◌, ◌++◌, length, Some, None, refl, ap, sym, ◌∙◌, subst, arith, append_assoc, append-nil, suc, zero, pos, true≢false, drop, take, if◌then◌else◌}
+use Rattle.std.proofs.Common.{◌≡◌, ◌≢◌, ℕ, ℤ, ◌+◌, ◌-◌, ◌*◌, ◌<◌, ◌≤◌, ◌↔◌, Bool, true, false, List, [], ◌∷◌, length, refl, ap, sym, ◌∙◌, subst, arith, pos, if◌then◌else◌}
 use Rattle.std.specs.Prelude.{FitsSigned}
 use Rattle.std.specs.List.{take_while}
 use Rattle.std.specs.Int.{w64}
-use Rattle.lido_lexer.specs.Bytes.{is_octal, is_plain, octal_front}
-use Rattle.lido_lexer.specs.Tokens.{IsName, IsString, IsPart, plain, escape, octal, IsQuoted, escaped}
+use Rattle.lido_lexer.specs.Tokens.{IsName, IsQuoted}
 use Rattle.lido_lexer.proofs.Lists.{head_of, tail_of, no_bytes}
 use Rattle.std.proofs.lemmas.Bool.Decides.{nat_tests}
 use Rattle.lido_lexer.proofs.BytesLemmas.{unequal}
-use Rattle.lido_lexer.proofs.Options.{none_some}
-use Rattle.lido_lexer.proofs.PartsLemmas.{escape_part, octal_part, large_no_part, quote_no_part, one_part}
-use Rattle.tree_reader.specs.Bytes.{is_white, is_digit, is_letter, is_name_byte, is_minus, behind, said_after, minus, unsigned, digits_at, number_at}
+use Rattle.tree_reader.specs.Bytes.{is_white, is_digit, is_minus, behind, said_after, minus}
 use Rattle.tree_reader.specs.Language.{IsInt, IsFront, StandsAt, Spells, IsOneNode}
-use Rattle.tree_reader.specs.Scanning.{Begun, signed, octal_after}
+use Rattle.tree_reader.specs.Scanning.{Begun}
 use Rattle.tree_reader.specs.declared.part.Part.{Part}
 use Rattle.tree_reader.specs.declared.part.Part.TheVariants as part
-use Rattle.tree_reader.specs.declared.scanner.Phase.{Phase}
 use Rattle.tree_reader.specs.declared.scanner.Phase.TheVariants as phase
-use Rattle.tree_reader.proofs.Said.{said_grows}
 use Rattle.tree_reader.proofs.FrontsOfBytes.{behind_skip, behind_stop, taken_more, taken_none}
 
 first_of : {p q : Part} {ps qs : List Part} → p ∷ ps ≡ q ∷ qs → p ≡ q

@@ -1,15 +1,15 @@
 -- How a table is filled from the left.
-use Rattle.std.proofs.Common.{◌≡◌, ◌≢◌, ℕ, ℤ, ◌+◌, ◌<◌, ◌≤◌, Bool, true, false, true≢false, if◌then◌else◌, List, [], ◌∷◌, ◌++◌, length, Some, None, Option, Result, Ok, Err, refl, ap, sym, ◌∙◌, subst, arith, append_assoc, append-nil, suc, zero, add-one, length-append}
-use Rattle.std.specs.Prelude.{slice_get, nat_le}
+use Rattle.std.proofs.Common.{◌≡◌, ℕ, ℤ, ◌+◌, ◌<◌, Bool, true, false, true≢false, if◌then◌else◌, List, [], ◌∷◌, ◌++◌, length, Some, None, Option, Result, Err, refl, ap, sym, ◌∙◌, arith, append_assoc, append-nil, suc, zero, add-one, length-append}
+use Rattle.std.specs.Prelude.{nat_le}
 use Rattle.lido_base.specs.Plain.{Plain, Int, Str}
 use Rattle.lido_base.specs.Tree.{Tree, Node, Item, Child, Leaf, items_of, places, with_item, with_node}
 use Rattle.lido_base.specs.declared.kinds.Many.TheVariants as many
 use Rattle.lido_base.specs.declared.value.ValueType.TheVariants as type
 use Rattle.tree_store.specs.declared.fault.TreeFault.{TreeFault}
 use Rattle.tree_store.specs.declared.fault.TreeFault.TheVariants as fault
-use Rattle.tree_store.proofs.GrowthLemmas.{length-with_item, items_of-with_item, items_of-append}
+use Rattle.tree_store.proofs.GrowthLemmas.{length-with_item, items_of-with_item}
 use Rattle.tree_reader.specs.Language.{Forest, none, node, int, string}
-use Rattle.tree_reader.specs.WrittenTrees.{Asked, count, first_of, unless_fault, rule_named, items, nodes, fault_among, node_fault, meaning, most_nodes, add_items, Frame, fill, resume}
+use Rattle.tree_reader.specs.WrittenTrees.{Asked, count, first_of, rule_named, items, nodes, fault_among, node_fault, most_nodes, add_items, Frame, fill, resume}
 
 module _ {V : Type 0} where
   add_none : (t : Tree V) (p : ℕ) → add_items t p [] ≡ t

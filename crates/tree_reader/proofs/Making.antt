@@ -1,6 +1,6 @@
 -- One part more of a tree that is written in part.
-use Rattle.std.proofs.Common.{◌≡◌, ◌≢◌, ℕ, ℤ, ◌+◌, ◌<◌, ◌≤◌, Bool, true, false, List, [], ◌∷◌, ◌++◌, map, length, Some, None, Option, Result, Ok, Err, refl, ap, sym, ◌∙◌, subst, arith, append_assoc, append-nil, suc, zero, add-one, length-append}
-use Rattle.std.specs.Prelude.{slice_get, option_map, unwrap_or}
+use Rattle.std.proofs.Common.{◌≡◌, ℕ, ℤ, ◌+◌, ◌<◌, ◌≤◌, true, false, List, [], ◌∷◌, ◌++◌, map, length, Some, None, Option, Result, Err, refl, ap, sym, ◌∙◌, subst, arith, append_assoc, suc, zero, length-append}
+use Rattle.std.specs.Prelude.{slice_get, unwrap_or}
 use Rattle.std.proofs.lemmas.List.{map-append}
 use Rattle.std.proofs.lemmas.Option.{none-some}
 use Rattle.lido_base.specs.Plain.{Plain, Int, Str, plain, plain_item, plain_tree}
@@ -13,11 +13,11 @@ use Rattle.lido_lexer.specs.Lexing.{Gains}
 use Rattle.tree_store.specs.Growth.{IsOpen}
 use Rattle.tree_store.specs.declared.fault.TreeFault.{TreeFault}
 use Rattle.tree_store.specs.declared.fault.TreeFault.TheVariants as fault
-use Rattle.tree_store.proofs.GrowthLemmas.{length-with_item, parent_of-with_item, parent_of_before, parent_of_last}
-use Rattle.tree_store.proofs.OpenLemmas.{open_upwards, open_kept, open_added, parent_kept}
+use Rattle.tree_store.proofs.GrowthLemmas.{length-with_item, parent_of-with_item, parent_of_last}
+use Rattle.tree_store.proofs.OpenLemmas.{open_upwards, parent_kept}
 use Rattle.tree_reader.specs.Language.{Forest, none, node, int, string, parts_of}
 use Rattle.tree_reader.specs.WrittenTrees.{Asked, Frame, resume, node_fault}
-use Rattle.tree_reader.specs.Writing.{AreOpen, CanGrow, innermost, IsStack, IsPath, AreLeft, MakesOf}
+use Rattle.tree_reader.specs.Writing.{AreOpen, CanGrow, AreLeft, MakesOf}
 use Rattle.tree_reader.specs.declared.part.Part.{Part}
 use Rattle.tree_reader.specs.declared.part.Part.TheVariants as part
 use Rattle.tree_reader.specs.declared.writer.Open.{Open}

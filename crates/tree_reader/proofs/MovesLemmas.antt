@@ -1,10 +1,10 @@
 -- How the scanner's moves are made, and joined.
-use Rattle.std.proofs.Common.{◌≡◌, ◌≢◌, ℕ, ℤ, ◌+◌, ◌↔◌, List, [], ◌∷◌, ◌++◌, length, Some, None, Option, Result, Ok, Err, refl, ap, sym, ◌∙◌, subst, arith, append_assoc, append-nil, suc, zero, add-one}
+use Rattle.std.proofs.Common.{◌≡◌, ◌≢◌, ℕ, ℤ, ◌+◌, ◌↔◌, List, [], ◌∷◌, ◌++◌, length, Some, None, Option, Result, Ok, Err, refl, ap, sym, ◌∙◌, subst, arith, append_assoc, append-nil, suc, zero}
 use Rattle.std.specs.Prelude.{IfErr, OnOk, ⊤}
 use Rattle.tree_store.specs.declared.fault.TreeFault.{TreeFault}
 use Rattle.tree_store.specs.declared.fault.TreeFault.TheVariants as fault
-use Rattle.tree_reader.specs.Language.{Forest, none, node, int, string, parts_of, IsOneNode}
-use Rattle.tree_reader.specs.Scanning.{Begun, Follows, Closes, Left, Stands, Moves, IsStuck, Refuses, deeper}
+use Rattle.tree_reader.specs.Language.{none, node, int, string, parts_of, IsOneNode}
+use Rattle.tree_reader.specs.Scanning.{Begun, Follows, Closes, Left, Stands, Moves, Refuses, deeper}
 use Rattle.tree_reader.specs.declared.part.Part.{Part}
 use Rattle.tree_reader.specs.declared.part.Part.TheVariants as part
 use Rattle.tree_reader.specs.declared.scanner.Phase.{Phase}

@@ -1,5 +1,5 @@
 -- The first shape of a name.
-use Rattle.std.proofs.Common.{◌≡◌, ◌≢◌, ℕ, ◌+◌, ◌<◌, ◌≤◌, ◌⊎◌, inl, inr, ⊎_elim, Bool, true, false, true≢false, ◌==◌, if◌then◌else◌, List, [], ◌∷◌, ◌++◌, length, take, get_or, replicate, Bor, Some, None, Option, refl, ap, sym, ◌∙◌, subst, arith, append-nil, suc, zero, length-append}
+use Rattle.std.proofs.Common.{◌≡◌, ◌≢◌, ℕ, ◌+◌, ◌<◌, ◌≤◌, ⊎_elim, Bool, true, false, true≢false, ◌==◌, if◌then◌else◌, List, [], ◌∷◌, ◌++◌, length, take, get_or, replicate, Bor, Some, None, Option, refl, ap, sym, ◌∙◌, subst, arith, append-nil, suc, zero}
 use Rattle.std.specs.Prelude.{IfSome, slice_get, slice_index_or, bytes_eq, option_and_then, option_map, unwrap_or, option_copied}
 use Rattle.std.specs.Option.{option_flatten}
 use Rattle.std.specs.List.{list_any}

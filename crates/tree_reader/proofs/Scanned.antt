@@ -1,5 +1,5 @@
 -- A text that is scanned in part.
-use Rattle.std.proofs.Common.{get_or, ◌≤◌, ◌≡◌, ◌≢◌, ℕ, ℤ, ◌+◌, ◌<◌, ◌⊎◌, Bool, true, false, true≢false, take, drop, inl, inr, List, [], ◌∷◌, ◌++◌, length, Some, None, Option, Result, Ok, Err, refl, ap, sym, ◌∙◌, subst, arith, append_assoc, append-nil, suc, zero, length-append}
+use Rattle.std.proofs.Common.{get_or, ◌≤◌, ◌≡◌, ℕ, ℤ, ◌+◌, ◌<◌, ◌⊎◌, true, false, true≢false, take, drop, inl, inr, List, [], ◌∷◌, ◌++◌, length, Some, None, Option, Result, Ok, Err, refl, ap, sym, ◌∙◌, subst, arith, append_assoc, append-nil, suc, zero, length-append}
 use Rattle.std.proofs.lemmas.List.{length-take}
 use Rattle.lido_base.specs.Phases.{IsThe}
 use Rattle.lido_base.specs.Reading.{SameHead, Begins, IsFaultPlace}
@@ -11,7 +11,7 @@ use Rattle.lido_lexer.proofs.Lists.{head_of, tail_of, no_bytes}
 use Rattle.tree_store.specs.declared.fault.TreeFault.{TreeFault}
 use Rattle.tree_store.specs.declared.fault.TreeFault.TheVariants as fault
 use Rattle.tree_reader.specs.Language.{none, node, int, string, IsFront, Spells, IsOneNode, IsTreeOf, IsTreeText}
-use Rattle.tree_reader.specs.Scanning.{Scanning, Begun, Follows, Closes, Left, Stands, Moves, IsStuck, Refuses, HasScanned, is_done}
+use Rattle.tree_reader.specs.Scanning.{Scanning, Begun, Follows, Closes, Left, Moves, IsStuck, Refuses, HasScanned, is_done}
 use Rattle.tree_reader.specs.declared.part.Part.{Part}
 use Rattle.tree_reader.specs.declared.part.Part.TheVariants as part
 use Rattle.tree_reader.specs.declared.scanner.Phase.{Phase}

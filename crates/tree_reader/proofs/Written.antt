@@ -1,5 +1,5 @@
 -- A tree that is written in part gets one part more.
-use Rattle.std.proofs.Common.{◌≡◌, ◌≢◌, ℕ, ℤ, ◌+◌, ◌<◌, ◌≤◌, ◌⊎◌, inl, Bool, true, false, true≢false, if◌then◌else◌, List, [], ◌∷◌, ◌++◌, length, Some, None, Option, Result, Ok, Err, refl, ap, sym, ◌∙◌, subst, arith, suc, zero, length-append, append-nil, add-one, drop, get_or}
+use Rattle.std.proofs.Common.{◌≡◌, ℕ, ℤ, ◌+◌, ◌<◌, ◌≤◌, inl, Bool, true, false, true≢false, if◌then◌else◌, List, [], ◌∷◌, ◌++◌, length, Some, None, Option, Result, Ok, Err, refl, ap, sym, ◌∙◌, subst, arith, append-nil, add-one, drop, get_or}
 use Rattle.std.proofs.Math.Seq.{drop-cons}
 use Rattle.std.proofs.lemmas.List.{drop_all}
 use Rattle.std.specs.Prelude.{slice_get, option_to_list, IfOk, OnOk, IfErr}
@@ -14,7 +14,6 @@ use Rattle.tree_store.specs.Growth.{IsOpen}
 use Rattle.tree_store.specs.declared.fault.TreeFault.{TreeFault}
 use Rattle.tree_store.specs.declared.fault.TreeFault.TheVariants as fault
 use Rattle.tree_store.proofs.OpenLemmas.{open_kept, open_added}
-use Rattle.tree_store.proofs.GrowthLemmas.{length-with_item}
 use Rattle.tree_reader.specs.Language.{Forest, none, node, int, string, parts_of}
 use Rattle.tree_reader.specs.WrittenTrees.{Asked, Frame, resume, node_fault, unless_fault, items, nodes, fault_among, meaning}
 use Rattle.tree_reader.specs.Writing.{AreOpen, CanGrow, IsStack, IsPath, AreLeft, MakesOf, IsWritten, FailsAs, RefusesIf, StopsAt, MeansFault}

@@ -1,5 +1,5 @@
 -- What a scan of a tree's text gives, and what is left to scan in each of its states.
-use Rattle.std.specs.Prelude.{◌≡◌, ◌≢◌, ◌+◌, ◌-◌, ◌*◌, ◌^◌, ◌<◌, ◌≤◌, ⊤, ℕ, ℤ, zero, suc, pos, if◌then◌else◌, Bool, false, true, List, [], ◌∷◌, ◌++◌, length, take, drop, take_while, fold, Option, Some, None, Result, Ok, Err, FitsSigned}
+use Rattle.std.specs.Prelude.{◌≡◌, ◌≢◌, ◌+◌, ◌-◌, ◌*◌, ◌<◌, ◌≤◌, ⊤, ℕ, ℤ, zero, suc, pos, if◌then◌else◌, Bool, false, true, List, [], ◌∷◌, ◌++◌, length, take, drop, take_while, fold, Option, Some, None, Result, Ok, Err, FitsSigned}
 use Rattle.std.specs.Int.{w64}
 use Rattle.lido_base.specs.Reading.{IsFaultPlace}
 use Rattle.lido_lexer.specs.Bytes.{is_octal}

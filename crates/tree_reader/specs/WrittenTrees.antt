@@ -1,16 +1,10 @@
 -- What a bracketed tree means over a flat grammar: the first fault of its nodes from the left, or the written tree as a table.
-use Rattle.std.specs.Prelude.{◌≡◌, ◌+◌, ℕ, zero, suc, Bool, nat_le, if◌then◌else◌, List, [], ◌∷◌, ◌++◌, length, Option, Some, None, Result, Ok, Err}
-use Rattle.std.specs.List.{list_any}
+use Rattle.std.specs.Prelude.{◌+◌, ℕ, zero, suc, Bool, nat_le, if◌then◌else◌, List, [], ◌∷◌, ◌++◌, length, Option, Some, None, Result, Ok, Err}
 use Rattle.lido_base.specs.Plain.{Plain, Int, Str}
-use Rattle.lido_base.specs.Tree.{Tree, Node, Item, Child, Leaf, places}
-use Rattle.lido_base.specs.declared.ids.SymId.{SymId}
+use Rattle.lido_base.specs.Tree.{Tree, Item, Child, Leaf, places}
 use Rattle.lido_base.specs.declared.kinds.Many.TheVariants as many
 use Rattle.lido_base.specs.declared.value.ValueType.{ValueType}
 use Rattle.lido_base.specs.declared.value.ValueType.TheVariants as type
-use Rattle.flat_grammar.specs.declared.flat.FlatSymbol.{FlatSymbol}
-use Rattle.flat_grammar.specs.declared.flat.FlatRule.{FlatRule}
-use Rattle.flat_grammar.specs.declared.flat.Shape.{Shape}
-use Rattle.flat_grammar.specs.WellFormed.{is_same_symbol}
 use Rattle.tree_store.specs.declared.fault.TreeFault.{TreeFault}
 use Rattle.tree_store.specs.declared.fault.TreeFault.TheVariants as fault
 use Rattle.tree_reader.specs.Language.{Forest, none, node, int, string}

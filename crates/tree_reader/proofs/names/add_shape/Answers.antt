@@ -1,5 +1,5 @@
-use Rattle.std.proofs.Common.{refl, sym, ◌∙◌, ap, subst, Bool, Some, None, Option, ℕ, ◌≡◌}
-use Rattle.std.specs.Prelude.{slice_get, slice_index_or, ◌==◌, false}
+use Rattle.std.proofs.Common.{sym, ◌∙◌, ap, Bool, None}
+use Rattle.std.specs.Prelude.{slice_index_or}
 use Rattle.tree_reader.specs.Asking.{or_last}
 use Rattle.tree_reader.proofs.Naming.{entry_of, entry_kept, rule_found, rule_missing, called_is, called_never}
 use Rattle.tree_reader.proofs.names.add_shape.Goals as goal

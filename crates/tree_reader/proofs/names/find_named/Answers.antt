@@ -1,5 +1,4 @@
-use Rattle.std.proofs.Common.{refl, sym, ◌∙◌, ap, subst, arith, None, Option, ℕ, List}
-use Rattle.std.specs.Prelude.{option_copied}
+use Rattle.std.proofs.Common.{sym, ◌∙◌, ap, subst, arith, None, ℕ, List}
 use Rattle.std.specs.Option.{option_flatten}
 use Rattle.lido_lexer.specs.Lexing.{Gains}
 use Rattle.lido_lexer.proofs.Reading.{gains_more}

@@ -1,4 +1,4 @@
-use Rattle.std.proofs.Common.{refl, sym, ◌∙◌, arith, rules, subst, ap, get_or, length, List, ◌≡◌}
+use Rattle.std.proofs.Common.{arith, rules, subst, ap, get_or, length, List, ◌≡◌}
 use Rattle.flat_grammar.specs.declared.flat.Shape.{Shape}
 use Rattle.tree_reader.proofs.Naming.{none_there, one_more_there, all_there}
 use Rattle.tree_reader.proofs.names.name_table.Goals as goal

@@ -1,4 +1,4 @@
-use Rattle.std.proofs.Common.{ℕ, List, [], Ok, inr, refl, sym, ◌∙◌, subst, arith, None, length}
+use Rattle.std.proofs.Common.{ℕ, List, [], Ok, inr, sym, ◌∙◌, subst, arith, None, length}
 use Rattle.lido_base.specs.Phases.{IsThe}
 use Rattle.tree_reader.specs.Scanning.{Scanning, HasScanned}
 use Rattle.tree_reader.specs.declared.part.Part.{Part}

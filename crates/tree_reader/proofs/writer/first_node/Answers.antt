@@ -1,4 +1,4 @@
-use Rattle.std.proofs.Common.{refl, sym, ◌∙◌, ap, subst, arith, ℕ, ℤ, List, [], ◌≡◌, ◌∷◌, ◌++◌, Some, None}
+use Rattle.std.proofs.Common.{refl, sym, ◌∙◌, ap, [], None}
 use Rattle.std.proofs.Common.{length}
 use Rattle.lido_base.specs.Tree.{Tree, with_node}
 use Rattle.lido_base.specs.declared.value.Value.{Value}

@@ -1,4 +1,4 @@
-use Rattle.std.proofs.Common.{refl, sym, ◌∙◌, ap, subst, arith, ℕ, ℤ, List, [], ◌≡◌, ◌∷◌, ◌++◌, Some, None}
+use Rattle.std.proofs.Common.{◌∙◌, ap, ℤ, []}
 use Rattle.std.proofs.Common.{length}
 use Rattle.std.specs.Int.{w64}
 use Rattle.std.proofs.lemmas.Int.{to_z-of_z}

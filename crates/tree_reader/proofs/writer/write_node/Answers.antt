@@ -1,10 +1,6 @@
-use Rattle.std.proofs.Common.{refl, sym, ◌∙◌, ap, subst, arith, ℕ, ℤ, List, [], ◌+◌, ◌≡◌, ◌∷◌, ◌++◌, Some, None}
+use Rattle.std.proofs.Common.{refl, ◌∙◌, ap, subst, arith, ℕ, ◌+◌, ◌≡◌, Some, None}
 use Rattle.std.proofs.Common.{length}
-use Rattle.std.specs.Int.{w64}
-use Rattle.std.proofs.lemmas.Int.{to_z-of_z}
-use Rattle.lido_base.specs.Tree.{Leaf, with_item, with_node}
-use Rattle.lido_base.specs.declared.value.Value.TheVariants as value
-use Rattle.lido_base.specs.declared.value.ValueType.TheVariants as type
+use Rattle.lido_base.specs.Tree.{with_node}
 use Rattle.tree_reader.specs.Asking.{asked}
 use Rattle.flat_grammar.specs.declared.flat.Shape.{Shape}
 use Rattle.tree_store.proofs.GrowthLemmas.{length-with_node}

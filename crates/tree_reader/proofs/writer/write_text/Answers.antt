@@ -1,9 +1,5 @@
-use Rattle.std.proofs.Common.{refl, sym, ◌∙◌, ap, subst, arith, ℕ, ℤ, List, [], ◌≡◌, ◌∷◌, ◌++◌, Some, None}
+use Rattle.std.proofs.Common.{sym, subst, ℕ, List, []}
 use Rattle.std.proofs.Common.{length}
-use Rattle.std.specs.Int.{w64}
-use Rattle.std.proofs.lemmas.Int.{to_z-of_z}
-use Rattle.lido_base.specs.Tree.{Leaf, with_item}
-use Rattle.lido_base.specs.declared.value.Value.TheVariants as value
 use Rattle.lido_base.specs.declared.value.ValueType.TheVariants as type
 use Rattle.tree_reader.specs.Asking.{asked}
 use Rattle.lido_lexer.specs.Lexing.{Gains}

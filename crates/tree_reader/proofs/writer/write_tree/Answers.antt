@@ -1,4 +1,4 @@
-use Rattle.std.proofs.Common.{refl, sym, ◌∙◌, ap, subst, arith, ℕ, List, ◌+◌, drop, length}
+use Rattle.std.proofs.Common.{ap, arith, ◌+◌, drop, length}
 use Rattle.lido_lexer.proofs.Reading.{gains_none, gains_more}
 use Rattle.tree_reader.specs.Asking.{asked}
 use Rattle.tree_reader.specs.WrittenTrees.{meaning}

@@ -1,4 +1,4 @@
-use Rattle.std.proofs.Common.{◌≡◌, ◌≤◌, ℕ, List, [], ◌∷◌, ◌++◌, drop, length}
+use Rattle.std.proofs.Common.{◌≡◌, ◌≤◌, ℕ, List, drop, length}
 use Rattle.lido_lexer.specs.Lexing.{Gains}
 use Rattle.tree_reader.specs.Language.{Forest, node, none, parts_of}
 use Rattle.tree_reader.specs.Asking.{asked}

@@ -1,4 +1,4 @@
-use Rattle.std.proofs.Common.{refl, sym, ◌∙◌, arith, ap, inl, inr}
+use Rattle.std.proofs.Common.{refl, sym, ◌∙◌}
 use Rattle.tree_reader.proofs.StepsOfScanner.{ok_then, child_end, child_open, child_quote, child_minus, child_digit, child_stuck}
 use Rattle.tree_reader.proofs.scanner.Scanner.child.Goals as goal
 

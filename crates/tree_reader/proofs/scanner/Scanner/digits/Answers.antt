@@ -1,10 +1,10 @@
-use Rattle.std.proofs.Common.{refl, sym, ◌∙◌, arith, ap, inl, inr}
+use Rattle.std.proofs.Common.{refl, sym, ◌∙◌}
 use Rattle.std.proofs.Common.{ℤ, subst}
 use Rattle.std.specs.Prelude.{FitsSigned}
 use Rattle.std.specs.Int.{w64}
 use Rattle.std.proofs.lemmas.Int.{to_z-of_z}
 use Rattle.tree_reader.specs.declared.scanner.Phase.TheVariants as phase
-use Rattle.tree_reader.proofs.StepsOfScanner.{stands_at, ok_then, digits_on, digits_stuck, digits_whole}
+use Rattle.tree_reader.proofs.StepsOfScanner.{stands_at, digits_on, digits_stuck, digits_whole}
 use Rattle.tree_reader.proofs.MovesLemmas.{moves_after, refused_after}
 use Rattle.tree_reader.proofs.scanner.Scanner.digits.Goals as goal
 

@@ -1,4 +1,4 @@
-use Rattle.std.proofs.Common.{refl, sym, ◌∙◌, arith, ap, inl, inr}
+use Rattle.std.proofs.Common.{refl, sym, ◌∙◌}
 use Rattle.tree_reader.proofs.StepsOfScanner.{ok_then, escape_octal, escape_on}
 use Rattle.tree_reader.proofs.scanner.Scanner.escape.Goals as goal
 

@@ -1,4 +1,4 @@
-use Rattle.std.proofs.Common.{refl, sym, ◌∙◌, arith, ap, inl, inr}
+use Rattle.std.proofs.Common.{refl}
 use Rattle.tree_reader.proofs.StepsOfScanner.{first_open, first_stuck}
 use Rattle.tree_reader.proofs.scanner.Scanner.first.Goals as goal
 

@@ -1,5 +1,5 @@
-use Rattle.std.proofs.Common.{refl, sym, ◌∙◌, arith, ap, inl, inr}
-use Rattle.tree_reader.proofs.StepsOfScanner.{gap_white, end_stuck}
+use Rattle.std.proofs.Common.{sym, ◌∙◌}
+use Rattle.tree_reader.proofs.StepsOfScanner.{gap_white}
 use Rattle.tree_reader.proofs.scanner.Scanner.gap.Goals as goal
 
 pub returns-then-is_white-clause-moves : goal.returns-then-is_white-clause-moves

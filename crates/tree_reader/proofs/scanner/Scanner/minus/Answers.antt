@@ -1,4 +1,4 @@
-use Rattle.std.proofs.Common.{refl, sym, ◌∙◌, arith, ap, inl, inr}
+use Rattle.std.proofs.Common.{refl, sym, ◌∙◌}
 use Rattle.tree_reader.proofs.StepsOfScanner.{minus_on}
 use Rattle.tree_reader.proofs.scanner.Scanner.minus.Goals as goal
 

@@ -1,4 +1,4 @@
-use Rattle.std.proofs.Common.{refl, sym, ◌∙◌, arith, ap, inl, inr}
+use Rattle.std.proofs.Common.{sym, ◌∙◌}
 use Rattle.tree_reader.proofs.StepsOfScanner.{ok_then, name_on, name_whole}
 use Rattle.tree_reader.proofs.MovesLemmas.{moves_after, refused_after}
 use Rattle.tree_reader.proofs.scanner.Scanner.name.Goals as goal

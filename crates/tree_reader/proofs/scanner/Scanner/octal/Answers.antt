@@ -1,5 +1,5 @@
-use Rattle.std.proofs.Common.{refl, sym, ◌∙◌, arith, ap, inl, inr}
-use Rattle.tree_reader.proofs.StepsOfScanner.{ok_then, octal_at, octal_stuck_at, octal_whole, octal_all}
+use Rattle.std.proofs.Common.{refl, sym, ◌∙◌}
+use Rattle.tree_reader.proofs.StepsOfScanner.{octal_at, octal_stuck_at, octal_whole, octal_all}
 use Rattle.tree_reader.proofs.MovesLemmas.{moves_after, refused_after}
 use Rattle.tree_reader.proofs.scanner.Scanner.octal.Goals as goal
 

@@ -1,4 +1,4 @@
-use Rattle.std.proofs.Common.{refl, sym, ◌∙◌, arith, ap, inl, inr}
+use Rattle.std.proofs.Common.{sym, ◌∙◌}
 use Rattle.tree_reader.proofs.StepsOfScanner.{ok_then, opened_gap, opened_name}
 use Rattle.tree_reader.proofs.scanner.Scanner.opened.Goals as goal
 

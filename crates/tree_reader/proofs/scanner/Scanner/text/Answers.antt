@@ -1,4 +1,4 @@
-use Rattle.std.proofs.Common.{refl, sym, ◌∙◌, arith, ap, inl, inr}
+use Rattle.std.proofs.Common.{refl, sym, ◌∙◌}
 use Rattle.tree_reader.proofs.StepsOfScanner.{ok_then, text_whole, text_escape, text_on, text_nowhere}
 use Rattle.tree_reader.proofs.scanner.Scanner.text.Goals as goal
 

@@ -16,8 +16,10 @@ mod tests;
 mod token;
 mod words;
 
+pub use bytes::{is_octal, is_plain};
 pub use keyword::Keyword;
 pub use lexer::{lex, lex_as_far};
 pub use look::{is_key, is_sign, next};
+pub use quoted::escaped;
 pub use sign::Sign;
 pub use token::{LexFault, Lexed, Token, TokenKind};

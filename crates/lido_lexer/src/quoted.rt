@@ -24,7 +24,7 @@ pub fn literal_front(bytes: &[u8]) -> Option<(&[u8], &[u8])>
 }
 
 /// What a byte behind a backslash stands for.
-fn escaped(letter: u8) -> Option<u8>
+pub fn escaped(letter: u8) -> Option<u8>
     ensures { result ≡ escaped letter }
 {
     match letter {

@@ -1,0 +1,16 @@
+use Rattle.std.proofs.Common.{◌≡◌, ◌≤◌, ℕ, List, drop, length}
+use Rattle.lido_lexer.specs.Lexing.{Gains}
+use Rattle.tree_reader.specs.Language.{Forest, node, none, parts_of}
+use Rattle.tree_reader.specs.Asking.{asked}
+use Rattle.tree_reader.specs.WrittenTrees.{meaning, most_nodes}
+use Rattle.tree_reader.specs.Writing.{IsWritten}
+use Rattle.tree_reader.proofs.writer.write_tree.Given as goal
+
+abbrev pub invariant-loop-part : goal.invariant-loop-part
+invariant-loop-part l = record {
+  written : (at : ℕ) × (name_at : ℕ) × (name : List ℕ) × (below : Forest) × (end : ℕ) × (l.parts ≡ parts_of (node at name_at name below end none))
+      × IsWritten (asked l.flat.symbols l.flat.rules l.flat.shapes l.flat.root l.fn.strings) l.strings l.tree (length l.flat.shapes) l.part-index l.current l.outer (drop l.part-index l.rest)
+      (meaning (asked l.flat.symbols l.flat.rules l.flat.shapes l.flat.root l.fn.strings) name_at name below end);
+  few_nodes : length l.tree ≤ most_nodes;
+  kept : Gains l.fn.strings l.strings;
+}

@@ -1,5 +1,5 @@
 -- How the readers of places and of remote attributes follow their parts.
-use Rattle.std.specs.Prelude.{◌≡◌, ℕ, ℤ, pos, Bool, true, false, IsTrue, ◌⊎◌, List, [], ◌∷◌, ◌++◌, refl, Option, Some, None}
+use Rattle.std.specs.Prelude.{◌≡◌, ℕ, ℤ, pos, Bool, IsTrue, ◌⊎◌, List, [], ◌∷◌, refl, Option, Some, None}
 use Rattle.std.proofs.Common.{sym, ◌∙◌, ap, subst, inl, inr}
 use Rattle.lido_base.specs.Reading.{SameHead, GoesOn, Finds, Refuses, Leads, nothing}
 use Rattle.lido_base.proofs.ReadingLemmas.{empty_finds, leads_on}
@@ -17,8 +17,8 @@ use Rattle.lido_syntax.specs.declared.spec.Cons.{Cons}
 use Rattle.lido_syntax.specs.declared.spec.Place.{Place}
 use Rattle.lido_syntax.specs.declared.spec.Place.TheVariants as place
 use Rattle.lido_reader.specs.Phrases.{Done, Then, AreSeparated, AreMore, end, IsName, word, is_comma}
-use Rattle.lido_reader.specs.Places.{Optional, absent, present, AreListed, single, several, IsInt, int, IsIndex, IsContext, context, IsPlace, named, by_word, in_targets, in_reads, IsPair, IsShield, IsWith, IsWithOf, is_bracket, is_option, is_shield, is_with}
-use Rattle.lido_reader.proofs.PhrasesLemmas.{Completable, then_completable, done_completable, sees_completable, name_completable, Stops, never, past, chosen, leads_self, one_finds, one_refuses, IsSaidByHead, IsNeverEmpty, sees_finds, IsWider, widens, plain_wider}
+use Rattle.lido_reader.specs.Places.{Optional, absent, present, AreListed, single, several, IsInt, int, IsIndex, IsContext, context, IsPlace, named, by_word, IsPair, IsShield, IsWith, IsWithOf, is_bracket, is_option, is_shield, is_with}
+use Rattle.lido_reader.proofs.PhrasesLemmas.{Completable, then_completable, done_completable, sees_completable, name_completable, Stops, never, past, chosen, one_finds, one_refuses, IsSaidByHead, IsNeverEmpty, sees_finds, IsWider, widens, plain_wider}
 
 -- ---- one token
 

@@ -1,6 +1,6 @@
 -- The grammar of expressions. A phrase is given what its computation may still spend and the number that comes next, and gives
 -- its tree with what is left of both.
-use Rattle.std.specs.Prelude.{◌≡◌, ℕ, zero, suc, ◌<◌, ℤ, Bool, true, false, ◌||◌, nat_le, List, [], ◌∷◌, ◌++◌, Option, Some, None, slice_get, codes}
+use Rattle.std.specs.Prelude.{◌≡◌, ℕ, suc, ◌<◌, ℤ, Bool, true, false, ◌||◌, nat_le, List, [], ◌∷◌, ◌++◌, Option, Some, None, slice_get, codes}
 use Rattle.lido_base.specs.declared.ids.StrId.{StrId}
 use Rattle.lido_lexer.specs.Seen.{Signs}
 use Rattle.lido_lexer.specs.declared.keyword.Keyword.TheVariants as key

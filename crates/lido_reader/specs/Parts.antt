@@ -1,5 +1,5 @@
 -- The parts of an expression behind the token that tells them from others, and what its readers answer.
-use Rattle.std.specs.Prelude.{◌≡◌, ℕ, ℤ, Bool, ◌||◌, List, [], ◌∷◌, Option, Some, None, slice_get, codes, Result}
+use Rattle.std.specs.Prelude.{◌≡◌, ℕ, ℤ, Bool, ◌||◌, List, [], ◌∷◌, Option, Some, slice_get, codes, Result}
 use Rattle.std.specs.Borrow.{Bor}
 use Rattle.lido_base.specs.Texts.{IsDistinctTexts}
 use Rattle.lido_lexer.specs.Lexing.{Gains}

@@ -31,6 +31,7 @@ pub record HasRow (ids : List (List ℕ)) (p : Place) : Type 0 where
 abbrev pub room : List ℕ → ℕ
 room rows = sum_by (λ row. 2 ^ 128 - row) rows
 
+-- how much the rows of all symbols can still grow
 abbrev pub room_of_all : List (List ℕ) → ℕ
 room_of_all ids = sum_by room ids
 

@@ -46,6 +46,7 @@ module _ (symbols : List FlatSymbol) where
 
 -- ---- the same by the places
 
+-- a place without vertices
 abbrev pub no_place : Place
 no_place = record { symbol = record { 0 = 0 }; offset = 0; width = 0 }
 

@@ -57,7 +57,7 @@ loop-k-preserved c =
     let count = l.invariant.graphs.count in
     let inside : l.k < length l.graphs = omega arith in
     let new_graph : (q : FlatRule) → r ≡ q → IsGraph flat.symbols flat.rules q s.new.graph.places.items s.new.graph.closure.rows.items =
-      λ q is. subst (λ (x : FlatRule). IsGraph flat.symbols flat.rules x s.new.graph.places.items s.new.graph.closure.rows.items) is (subst (λ ps. IsGraph flat.symbols flat.rules r ps s.new.graph.closure.rows.items) (sym (ap (λ places. places.items) s.ensures.places)) grown) in
+    λ q is. subst (λ (x : FlatRule). IsGraph flat.symbols flat.rules x s.new.graph.places.items s.new.graph.closure.rows.items) is (subst (λ ps. IsGraph flat.symbols flat.rules r ps s.new.graph.closure.rows.items) (sym (ap (λ places. places.items) s.ensures.places)) grown) in
     record {
       graphs = graphs_grow flat.symbols flat.rules l.graphs l.invariant.graphs l.k c.index-graphs-k.result within s.new.graph (λ q found. new_graph q (held (sym at ∙ found)));
       rows = rows_same flat.symbols flat.rules l.ids s.new.ids s.ensures.sizes l.invariant.rows;

@@ -1,12 +1,12 @@
-use Rattle.std.proofs.Common.{◌≡◌, ◌∙◌, inl, inr, sym, ap, length, arith, ◌<◌, ◌≤◌, ◌⊎◌, true, false, subst, ℕ}
-use Rattle.std.specs.Prelude.{All, slice_get, Some, slice_index_or}
+use Rattle.std.proofs.Common.{◌≡◌, ◌∙◌, inl, inr, sym, ap, length, arith, ◌<◌, ◌≤◌, ◌⊎◌, true, false, subst}
+use Rattle.std.specs.Prelude.{slice_index_or}
 use Rattle.std.proofs.lemmas.List.Elements.{All-contains}
 use Rattle.std.proofs.lemmas.Option.{slice_get_within}
 use Rattle.flat_grammar.specs.WellFormed.{IsRule}
 use Rattle.flat_grammar.specs.declared.flat.FlatRule.{FlatRule}
 use Rattle.flat_grammar.proofs.Lists.{held}
 use Rattle.induced_deps.specs.Graphs.{IsGraph}
-use Rattle.induced_deps.specs.Vertices.{AreWithin, vertices}
+use Rattle.induced_deps.specs.Vertices.{AreWithin}
 use Rattle.induced_deps.proofs.GraphLemmas.{within_all}
 use Rattle.induced_deps.proofs.GrowthLemmas.{graph_at, graph_grows, graphs_grow, have_rows, rows_same, rows_stay_sound, settled_further, same_further, less_further}
 use Rattle.induced_deps.proofs.growth.round.Goals as goal

@@ -1,22 +1,21 @@
 -- The vertices of a rule by its places, and the edges of a rule as paths of its induced dependencies.
-use Rattle.std.specs.Prelude.{sum_by, take, slice_index_or, slice_get, Contains, All, IsTrue, IsSome, is_some, option_and_then, ◌&&◌, ◌||◌, ◌==◌}
+use Rattle.std.specs.Prelude.{sum_by, take, slice_index_or, slice_get, Contains, All, IsTrue, is_some, option_and_then, ◌==◌}
 use Rattle.std.specs.List.{list_any}
-use Rattle.std.proofs.Common.{◌≡◌, ℕ, zero, suc, ◌+◌, ◌<◌, ◌≤◌, ◌⊎◌, ◌↔◌, inl, inr, refl, sym, ap, subst, ◌∙◌, arith, List, [], ◌∷◌, length, Option, Some, None, Bool, true, false, true≢false}
+use Rattle.std.proofs.Common.{◌≡◌, ℕ, zero, suc, ◌+◌, ◌<◌, ◌≤◌, inl, inr, refl, sym, ap, subst, ◌∙◌, arith, List, [], ◌∷◌, length, Option, Some, None, true, true≢false}
 use Rattle.std.proofs.lemmas.Bool.{cases_order, and_from, or_left, or_right, eq-eqb}
-use Rattle.std.proofs.lemmas.Option.{get_or_from_slice_get, slice_get-get_or, slice_get_within, none-some}
+use Rattle.std.proofs.lemmas.Option.{get_or_from_slice_get, slice_get-get_or, slice_get_within}
 use Rattle.std.proofs.lemmas.List.Sums.{sum_by-cons}
 use Rattle.std.proofs.lemmas.List.Elements.{All-contains}
 use Rattle.lido_base.specs.declared.ids.SymId.{SymId}
-use Rattle.lido_base.specs.declared.ids.AttrId.{AttrId}
 use Rattle.flat_grammar.specs.declared.flat.Occ.{Occ}
 use Rattle.flat_grammar.specs.declared.flat.FlatAttr.{FlatAttr}
 use Rattle.flat_grammar.specs.declared.flat.FlatComp.{FlatComp}
 use Rattle.flat_grammar.specs.declared.flat.FlatSymbol.{FlatSymbol}
 use Rattle.flat_grammar.specs.declared.flat.FlatRule.{FlatRule}
 use Rattle.flat_grammar.specs.Rules.{symbols_of, symbol_at, attribute_at, attrs_of, dependencies}
-use Rattle.flat_grammar.specs.WellFormed.{IsRule, is_goal, is_goal_kind, is_same_occ, attribute_of}
+use Rattle.flat_grammar.specs.WellFormed.{IsRule, is_goal_kind, is_same_occ, attribute_of}
 use Rattle.flat_grammar.specs.Dependencies.{DP, Joins, direct, edge, further}
-use Rattle.flat_grammar.proofs.Lists.{held, contains-nil, contains-cons, contains-slice_get}
+use Rattle.flat_grammar.proofs.Lists.{held, contains-nil, contains-cons}
 use Rattle.induced_deps.specs.declared.row.Row.{Row}
 use Rattle.induced_deps.specs.declared.graph.Place.{Place}
 use Rattle.induced_deps.specs.Rows.{Has, Gains, IsTransitive}

@@ -1,6 +1,6 @@
 -- The rows of the symbols and the edges of the rules grow soundly, and once they have all of each other's they are the least.
-use Rattle.std.specs.Prelude.{take, slice_index_or, slice_get, slice_set, Contains, All, IsTrue, IsFalse, IsBitSet, is_some, option_map, ◌&&◌}
-use Rattle.std.proofs.Common.{◌≡◌, ◌≢◌, ℕ, zero, suc, ◌+◌, ◌<◌, ◌≤◌, ◌⊎◌, ◌↔◌, inl, inr, refl, sym, ap, subst, ◌∙◌, arith, List, [], ◌∷◌, ◌++◌, length, map, Option, Some, None, Bool, true, false, true≢false, not}
+use Rattle.std.specs.Prelude.{take, slice_index_or, slice_get, slice_set, Contains, All, IsTrue, IsFalse, IsBitSet, option_map}
+use Rattle.std.proofs.Common.{◌≡◌, ◌≢◌, ℕ, zero, suc, ◌+◌, ◌<◌, ◌≤◌, ◌⊎◌, inl, inr, refl, sym, ap, subst, ◌∙◌, arith, List, [], ◌∷◌, ◌++◌, length, map, Option, Some, None, Bool, true, false, true≢false}
 use Rattle.std.proofs.lemmas.Bool.{cases_lt, cases_order}
 use Rattle.std.proofs.lemmas.Option.{get_or_from_slice_get, slice_get-get_or, slice_get_within, slice_get-map}
 use Rattle.std.proofs.lemmas.List.{map-append, length-map, length-set, length-append, get_or_past, get_or-set_same, get_or-set_other, get_or_append_left}
@@ -15,7 +15,7 @@ use Rattle.flat_grammar.specs.declared.flat.FlatSymbol.{FlatSymbol}
 use Rattle.flat_grammar.specs.declared.flat.FlatRule.{FlatRule}
 use Rattle.flat_grammar.specs.Rules.{symbols_of, symbol_at, attrs_of}
 use Rattle.flat_grammar.specs.WellFormed.{IsRule, is_nonterminal, is_nonterminal_symbol}
-use Rattle.flat_grammar.specs.Dependencies.{DP, IDS, Joins, IsClosed, AreInducedRows, edge, induced, joined}
+use Rattle.flat_grammar.specs.Dependencies.{IDS, Joins, IsClosed, AreInducedRows, edge, induced, joined}
 use Rattle.flat_grammar.proofs.Lists.{held, contains-slice_get, slice_get-contains}
 use Rattle.flat_grammar.proofs.DependenciesLemmas.{IDS-least}
 use Rattle.flat_grammar.proofs.BitsLemmas.{empty-set}
@@ -23,14 +23,14 @@ use Rattle.induced_deps.specs.declared.row.Row.{Row}
 use Rattle.induced_deps.specs.declared.graph.Place.{Place}
 use Rattle.induced_deps.specs.declared.growth.Graph.{Graph}
 use Rattle.induced_deps.specs.Rows.{Has, Gains, IsTransitive}
-use Rattle.induced_deps.specs.Vertices.{width, offset, vertices, number, IsVertex, IsPlace, ArePlaces, AreWithin}
-use Rattle.induced_deps.specs.Rounds.{IsBit, rows_of, room_of_all, OfPlaces, IsAtSymbol, IsProjected, HasRow}
+use Rattle.induced_deps.specs.Vertices.{width, offset, number, IsVertex, IsPlace, ArePlaces}
+use Rattle.induced_deps.specs.Rounds.{IsBit, rows_of, room_of_all, OfPlaces, IsProjected, HasRow}
 use Rattle.induced_deps.specs.Graphs.{IsJoined, IsGraph, AreGraphs, AreSoundRows, HaveRows, IsSettled, AreSettled}
 use Rattle.induced_deps.proofs.RowLemmas.{equal_or_not}
 use Rattle.induced_deps.proofs.VertexLemmas.{at_push}
 use Rattle.induced_deps.proofs.DirectLemmas.{next_take}
 use Rattle.induced_deps.proofs.ClosureLemmas.{follows_within}
-use Rattle.induced_deps.proofs.GraphLemmas.{one_vertex, joined_on, within_all, comp_vertices}
+use Rattle.induced_deps.proofs.GraphLemmas.{one_vertex, joined_on, comp_vertices}
 
 some_at : {X : Type 0} (xs : List X) (k : ℕ) → k < length xs → (x : X) × (slice_get xs k ≡ Some x)
 some_at [] k h = absurd (omega arith)

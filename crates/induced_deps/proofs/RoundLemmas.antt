@@ -1,6 +1,6 @@
 -- The induced dependencies as edges, gained row by row and place by place.
-use Rattle.std.specs.Prelude.{slice_index_or, Contains, All, Bool, true, false, IsTrue, IsFalse}
-use Rattle.std.proofs.Common.{◌≡◌, ℕ, suc, ◌+◌, ◌<◌, ◌≤◌, ◌⊎◌, ◌↔◌, inl, inr, refl, sym, ap, subst, ◌∙◌, arith, List, [], ◌∷◌, length, take, map, true≢false}
+use Rattle.std.specs.Prelude.{slice_index_or, All, Bool, true, false, IsTrue, IsFalse}
+use Rattle.std.proofs.Common.{◌≡◌, ℕ, ◌+◌, ◌<◌, ◌≤◌, ◌⊎◌, ◌↔◌, inl, inr, sym, ap, subst, ◌∙◌, arith, List, [], length, take, map, true≢false}
 use Rattle.std.proofs.lemmas.Bool.{cases_order}
 use Rattle.std.proofs.lemmas.Option.{get_or_from_slice_get, slice_get-get_or}
 use Rattle.std.proofs.lemmas.List.{length-map}

@@ -1,5 +1,5 @@
 -- Rows of words as sets of numbers.
-use Rattle.std.specs.Prelude.{IsBitSet, nat_eq, slice_set, slice_index_or, ◌%◌, ◌/◌, IsTrue}
+use Rattle.std.specs.Prelude.{IsBitSet, nat_eq, slice_set, slice_index_or, ◌%◌, ◌/◌}
 use Rattle.std.proofs.Common.{◌≡◌, ◌≢◌, ℕ, zero, suc, ◌+◌, ◌*◌, ◌<◌, ◌≤◌, ◌⊎◌, ◌↔◌, inl, inr, refl, sym, ap, subst, ◌∙◌, arith, List, [], ◌∷◌, length, Bool, true, false, eq-eqb, true≢false}
 use Rattle.std.proofs.Math.Nat.{div-add-mod}
 use Rattle.std.proofs.lemmas.List.{get_or-set_same, get_or-set_other, get_or_past}

@@ -1,5 +1,5 @@
 -- How the induced dependencies of symbols and the edges of rules feed each other.
-use Rattle.std.specs.Prelude.{◌≡◌, ◌+◌, ◌-◌, ◌<◌, ◌≤◌, ◌^◌, ◌⊎◌, ℕ, Bool, IsTrue, IsFalse, List, [], map, length, sum_by, Some, slice_get, slice_index_or, IsBitSet, Contains, All}
+use Rattle.std.specs.Prelude.{◌≡◌, ◌+◌, ◌-◌, ◌<◌, ◌≤◌, ◌^◌, ℕ, List, [], length, sum_by, slice_index_or, IsBitSet, Contains}
 use Rattle.induced_deps.specs.declared.row.Row.{Row}
 use Rattle.induced_deps.specs.declared.graph.Place.{Place}
 use Rattle.induced_deps.specs.Rows.{Has}
@@ -31,6 +31,7 @@ pub record HasRow (ids : List (List ℕ)) (p : Place) : Type 0 where
 abbrev pub room : List ℕ → ℕ
 room rows = sum_by (λ row. 2 ^ 128 - row) rows
 
+-- how much the rows of all symbols can still grow
 abbrev pub room_of_all : List (List ℕ) → ℕ
 room_of_all ids = sum_by room ids
 

@@ -6,7 +6,6 @@ use Rattle.flat_grammar.specs.declared.flat.FlatSymbol.{FlatSymbol}
 use Rattle.flat_grammar.specs.declared.flat.FlatRule.{FlatRule}
 use Rattle.flat_grammar.specs.declared.flat.FlatComp.{FlatComp}
 use Rattle.flat_grammar.specs.Rules.{symbols_of, symbol_at, attrs_of, dependencies}
-use Rattle.induced_deps.specs.Rows.{IsIn}
 use Rattle.induced_deps.specs.declared.graph.Place.{Place}
 
 module _ (symbols : List FlatSymbol) where
@@ -46,6 +45,7 @@ module _ (symbols : List FlatSymbol) where
 
 -- ---- the same by the places
 
+-- a place without vertices
 abbrev pub no_place : Place
 no_place = record { symbol = record { 0 = 0 }; offset = 0; width = 0 }
 

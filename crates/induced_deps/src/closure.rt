@@ -1,5 +1,5 @@
 //! A relation between the vertices of a rule that is kept transitive.
-ghost use Rattle.std.specs.Prelude.{◌≡◌, ◌<◌, ◌≤◌, ◌↔◌, ◌⊎◌, ℕ, IsTrue, IfOk, length, vec_len};
+ghost use Rattle.std.specs.Prelude.{◌≡◌, ◌<◌, ◌≤◌, ◌↔◌, ℕ, IsTrue, IfOk, length};
 ghost use Rattle.induced_deps.specs.Rows.{IsIn, Has, IsTransitive, IsReached, IsWith, Gains, FromOne};
 
 use crate::row::Row;

@@ -1,9 +1,9 @@
 //! The direct dependencies of a rule as edges between its vertices.
-ghost use Rattle.std.specs.Prelude.{◌≡◌, ◌+◌, ◌<◌, ◌≤◌, ◌↔◌, ℕ, IfOk, OnOk, IsBitSet, All, Contains, length};
+ghost use Rattle.std.specs.Prelude.{◌≡◌, ◌+◌, ◌<◌, ◌≤◌, ◌↔◌, ℕ, OnOk, IsBitSet, Contains, length};
 ghost use Rattle.flat_grammar.specs.Rules.{dependencies};
 ghost use Rattle.flat_grammar.specs.declared.flat.Occ.{Occ as Occurrence};
 ghost use Rattle.flat_grammar.specs.declared.flat.FlatComp.{FlatComp as Computation};
-ghost use Rattle.induced_deps.specs.Rows.{IsIn, IsTransitive, Gains, Has};
+ghost use Rattle.induced_deps.specs.Rows.{IsIn, IsTransitive, Gains};
 ghost use Rattle.induced_deps.specs.Vertices.{AreWithin, HasPlaces, IsAtPlace, IsPlaced, OfComps, ToGoal, number_in};
 
 use crate::closure::Closure;

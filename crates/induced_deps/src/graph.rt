@@ -1,7 +1,7 @@
 //! The vertices of a rule.
-ghost use Rattle.std.specs.Prelude.{◌≡◌, ◌≤◌, IfOk, slice_get, Some};
+ghost use Rattle.std.specs.Prelude.{◌≡◌, ◌≤◌, IfOk};
 ghost use Rattle.flat_grammar.specs.Rules.{symbols_of};
-ghost use Rattle.induced_deps.specs.Vertices.{ArePlaces, IsVertex, number as number_of, vertices, width};
+ghost use Rattle.induced_deps.specs.Vertices.{ArePlaces, vertices, width};
 
 use flat_grammar::{Flat, FlatRule, Occ};
 use lido_base::{Memory, SymId};

@@ -1,5 +1,5 @@
 //! The induced dependencies of all symbols.
-ghost use Rattle.std.specs.Prelude.{◌≡◌, ◌<◌, ◌≤◌, ◌⊎◌, ℕ, IfOk, IsTrue, IsFalse, Some, All, Contains, map, slice_get, length};
+ghost use Rattle.std.specs.Prelude.{◌≡◌, ◌<◌, ◌≤◌, ◌⊎◌, ℕ, IfOk, IsTrue, IsFalse, All, Contains, map, length};
 ghost use Rattle.flat_grammar.specs.Dependencies.{AreInducedRows};
 ghost use Rattle.induced_deps.specs.Graphs.{AreGraphs, AreSettled, AreSoundRows, HaveRows, IsGraph, IsSettled};
 ghost use Rattle.induced_deps.specs.Rows.{Gains, IsTransitive};

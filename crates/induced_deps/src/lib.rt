@@ -7,5 +7,7 @@ mod graph;
 mod growth;
 mod rounds;
 mod row;
+#[cfg(test)]
+mod tests;
 
 pub use growth::induce;

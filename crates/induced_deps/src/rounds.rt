@@ -1,5 +1,5 @@
 //! How the induced dependencies of symbols and the edges of rules feed each other.
-ghost use Rattle.std.specs.Prelude.{◌≡◌, ◌+◌, ◌<◌, ◌≤◌, ◌↔◌, ◌⊎◌, ℕ, IsTrue, IsFalse, IsBitSet, All, Contains, length, map};
+ghost use Rattle.std.specs.Prelude.{◌≡◌, ◌+◌, ◌<◌, ◌≤◌, ◌↔◌, ◌⊎◌, ℕ, IsTrue, IsFalse, IsBitSet, All, length, map};
 ghost use Rattle.induced_deps.specs.Rows.{Gains, Has, IsTransitive};
 ghost use Rattle.induced_deps.specs.Rounds.{HasRow, IsAtSymbol, IsBit, IsProjected, OfPlaces, OfRows, room, room_of_all, rows_of};
 ghost use Rattle.induced_deps.specs.Vertices.{AreWithin};

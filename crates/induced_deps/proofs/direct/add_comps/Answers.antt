@@ -1,7 +1,4 @@
-use Rattle.std.proofs.Common.{◌≡◌, ◌∙◌, refl, subst, sym}
-use Rattle.std.specs.Prelude.{Contains}
-use Rattle.flat_grammar.specs.declared.flat.FlatComp.{FlatComp}
-use Rattle.induced_deps.specs.Vertices.{HasPlaces}
+use Rattle.std.proofs.Common.{◌∙◌, refl}
 use Rattle.induced_deps.proofs.DirectLemmas.{contains_at, no_comps, one_comp_more}
 use Rattle.induced_deps.proofs.direct.add_comps.Goals as goal
 

@@ -1,7 +1,5 @@
-use Rattle.std.proofs.Common.{◌≡◌, ◌∙◌, ap, sym, subst, arith, length, ◌∷◌, [], refl, ◌+◌, List, ◌++◌, Fits, w64, ◌≤◌}
+use Rattle.std.proofs.Common.{◌∙◌, ap, arith, ◌+◌}
 use Rattle.std.proofs.lemmas.List.{length-append}
-use Rattle.flat_grammar.specs.Rules.{symbols_of}
-use Rattle.induced_deps.specs.Vertices.{IsPlace, offset, vertices}
 use Rattle.induced_deps.proofs.VertexLemmas.{goes_on, last_place, offset_most, place_push}
 use Rattle.induced_deps.proofs.graph.places_of.Goals as goal
 

@@ -1,8 +1,6 @@
-use Rattle.std.proofs.Common.{◌≡◌, ◌∙◌, ap, sym, subst, length, map, take, ◌∷◌, [], ◌++◌, ◌+◌, List, ◌<◌}
+use Rattle.std.proofs.Common.{◌≡◌, ◌∙◌, ap, sym, subst, length, List, ◌<◌}
 use Rattle.std.specs.Prelude.{slice_index_or, All}
-use Rattle.std.proofs.lemmas.List.{map-append}
 use Rattle.flat_grammar.specs.declared.flat.FlatSymbol.{FlatSymbol}
-use Rattle.induced_deps.proofs.DirectLemmas.{next_take}
 use Rattle.induced_deps.proofs.GrowthLemmas.{rows_push, one_symbol_more}
 use Rattle.induced_deps.proofs.growth.empty_rows.Goals as goal
 

@@ -1,10 +1,9 @@
-use Rattle.std.proofs.Common.{◌≡◌, ◌∙◌, sym, subst, ap, length}
-use Rattle.std.specs.Prelude.{Contains, All, sum_by, ◌≤◌, List}
+use Rattle.std.proofs.Common.{◌∙◌, subst}
+use Rattle.std.specs.Prelude.{Contains, ◌≤◌, List}
 use Rattle.std.proofs.lemmas.List.Elements.{All-contains}
 use Rattle.flat_grammar.specs.declared.flat.FlatComp.{FlatComp}
 use Rattle.flat_grammar.specs.WellFormed.{IsRule}
-use Rattle.induced_deps.specs.declared.graph.Place.{Place}
-use Rattle.induced_deps.specs.Vertices.{AreWithin, HasPlaces, vertices}
+use Rattle.induced_deps.specs.Vertices.{vertices}
 use Rattle.induced_deps.proofs.GraphLemmas.{within_all, comp_placed, graph_made}
 use Rattle.induced_deps.proofs.growth.graph_of.Goals as goal
 

@@ -1,8 +1,7 @@
-use Rattle.std.proofs.Common.{◌≡◌, ◌∙◌, ap, length, ◌∷◌, [], ◌+◌, ◌<◌, sym, subst, List}
+use Rattle.std.proofs.Common.{◌∙◌, ap, length, ◌∷◌, [], ◌+◌, ◌<◌, subst, List}
 use Rattle.std.specs.Prelude.{slice_index_or}
 use Rattle.std.proofs.lemmas.List.{length-append}
 use Rattle.flat_grammar.specs.declared.flat.FlatRule.{FlatRule}
-use Rattle.induced_deps.proofs.DirectLemmas.{contains_at}
 use Rattle.induced_deps.proofs.GrowthLemmas.{graph_push}
 use Rattle.induced_deps.proofs.growth.graphs_of.Goals as goal
 

@@ -1,12 +1,12 @@
-use Rattle.std.proofs.Common.{◌≡◌, ◌∙◌, inl, inr, sym, ap, length, arith, ◌<◌, ◌≤◌, ◌⊎◌, true, false, subst, ℕ}
-use Rattle.std.specs.Prelude.{All, slice_get, Some, slice_index_or}
+use Rattle.std.proofs.Common.{◌≡◌, ◌∙◌, inl, inr, sym, ap, length, arith, ◌<◌, ◌≤◌, ◌⊎◌, true, false, subst}
+use Rattle.std.specs.Prelude.{slice_index_or}
 use Rattle.std.proofs.lemmas.List.Elements.{All-contains}
 use Rattle.std.proofs.lemmas.Option.{slice_get_within}
 use Rattle.flat_grammar.specs.WellFormed.{IsRule}
 use Rattle.flat_grammar.specs.declared.flat.FlatRule.{FlatRule}
 use Rattle.flat_grammar.proofs.Lists.{held}
 use Rattle.induced_deps.specs.Graphs.{IsGraph}
-use Rattle.induced_deps.specs.Vertices.{AreWithin, vertices}
+use Rattle.induced_deps.specs.Vertices.{AreWithin}
 use Rattle.induced_deps.proofs.GraphLemmas.{within_all}
 use Rattle.induced_deps.proofs.GrowthLemmas.{graph_at, graph_grows, graphs_grow, have_rows, rows_same, rows_stay_sound, settled_further, same_further, less_further}
 use Rattle.induced_deps.proofs.growth.round.Goals as goal
@@ -57,7 +57,7 @@ loop-k-preserved c =
     let count = l.invariant.graphs.count in
     let inside : l.k < length l.graphs = omega arith in
     let new_graph : (q : FlatRule) → r ≡ q → IsGraph flat.symbols flat.rules q s.new.graph.places.items s.new.graph.closure.rows.items =
-      λ q is. subst (λ (x : FlatRule). IsGraph flat.symbols flat.rules x s.new.graph.places.items s.new.graph.closure.rows.items) is (subst (λ ps. IsGraph flat.symbols flat.rules r ps s.new.graph.closure.rows.items) (sym (ap (λ places. places.items) s.ensures.places)) grown) in
+    λ q is. subst (λ (x : FlatRule). IsGraph flat.symbols flat.rules x s.new.graph.places.items s.new.graph.closure.rows.items) is (subst (λ ps. IsGraph flat.symbols flat.rules r ps s.new.graph.closure.rows.items) (sym (ap (λ places. places.items) s.ensures.places)) grown) in
     record {
       graphs = graphs_grow flat.symbols flat.rules l.graphs l.invariant.graphs l.k c.index-graphs-k.result within s.new.graph (λ q found. new_graph q (held (sym at ∙ found)));
       rows = rows_same flat.symbols flat.rules l.ids s.new.ids s.ensures.sizes l.invariant.rows;

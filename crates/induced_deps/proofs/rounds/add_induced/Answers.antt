@@ -1,4 +1,4 @@
-use Rattle.std.proofs.Common.{◌≡◌, ◌∙◌, refl}
+use Rattle.std.proofs.Common.{◌∙◌, refl}
 use Rattle.induced_deps.proofs.RoundLemmas.{no_places, one_place_more, row_is}
 use Rattle.induced_deps.proofs.rounds.add_induced.Goals as goal
 

@@ -1,4 +1,4 @@
-use Rattle.std.proofs.Common.{◌≡◌, ◌∙◌, refl}
+use Rattle.std.proofs.Common.{◌∙◌, refl}
 use Rattle.induced_deps.proofs.RoundLemmas.{no_rows, one_row_more}
 use Rattle.induced_deps.proofs.rounds.add_rows.Goals as goal
 

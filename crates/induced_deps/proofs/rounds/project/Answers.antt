@@ -1,4 +1,4 @@
-use Rattle.std.proofs.Common.{◌≡◌, ◌∙◌, refl, inl, inr, subst, sym, length, take, arith, ◌≤◌, true, false, ◌⊎◌}
+use Rattle.std.proofs.Common.{◌≡◌, ◌∙◌, inl, inr, subst, sym, arith, true, false, ◌⊎◌}
 use Rattle.std.specs.Prelude.{Contains}
 use Rattle.std.proofs.lemmas.List.{take_all}
 use Rattle.induced_deps.proofs.RoundLemmas.{has_row_at, still_sound, still_same, still_all, still_less}

@@ -1,4 +1,4 @@
-use Rattle.std.proofs.Common.{◌≡◌, ◌∙◌, length, sym, ap, arith, [], List, ℕ}
+use Rattle.std.proofs.Common.{length, arith, []}
 use Rattle.std.proofs.Math.Seq.{map-set_same}
 use Rattle.std.proofs.lemmas.Grind.{common_steps}
 use Rattle.induced_deps.proofs.rounds.project_place.Goals as goal

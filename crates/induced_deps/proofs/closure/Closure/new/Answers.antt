@@ -1,4 +1,4 @@
-use Rattle.std.proofs.Common.{◌≡◌, ◌∙◌, ap, arith, length, ◌∷◌, [], refl, ◌+◌}
+use Rattle.std.proofs.Common.{◌∙◌, ap, ◌∷◌, [], refl, ◌+◌}
 use Rattle.std.proofs.lemmas.List.{length-append}
 use Rattle.induced_deps.proofs.ClosureLemmas.{no_edges, none_more}
 use Rattle.induced_deps.proofs.closure.Closure.new.Goals as goal

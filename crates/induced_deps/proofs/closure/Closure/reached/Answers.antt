@@ -1,4 +1,4 @@
-use Rattle.std.proofs.Common.{◌≡◌, ◌≤◌, arith, length}
+use Rattle.std.proofs.Common.{arith}
 use Rattle.induced_deps.proofs.ClosureLemmas.{reached_whole}
 use Rattle.induced_deps.proofs.closure.Closure.reached.Goals as goal
 

@@ -1,4 +1,4 @@
-use Rattle.std.proofs.Common.{◌≡◌, ◌<◌, ◌/◌, length, arith}
+use Rattle.std.proofs.Common.{arith}
 use Rattle.induced_deps.proofs.RowLemmas.{added}
 use Rattle.induced_deps.proofs.row.Row.add.Goals as goal
 

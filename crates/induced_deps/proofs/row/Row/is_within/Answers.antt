@@ -1,4 +1,4 @@
-use Rattle.std.proofs.Common.{◌≡◌, ◌≤◌, length, arith, refl}
+use Rattle.std.proofs.Common.{arith, refl}
 use Rattle.induced_deps.specs.Rows.{IsPart}
 use Rattle.induced_deps.proofs.RowLemmas.{part_whole}
 use Rattle.induced_deps.proofs.row.Row.is_within.Goals as goal

@@ -1,4 +1,4 @@
-use Rattle.std.proofs.Common.{◌≡◌, ◌≤◌, length, arith}
+use Rattle.std.proofs.Common.{arith}
 use Rattle.induced_deps.proofs.RowLemmas.{joined_whole}
 use Rattle.induced_deps.proofs.row.Row.join.Goals as goal
 

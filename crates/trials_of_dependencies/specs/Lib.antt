@@ -1,0 +1,3 @@
+pub mod CopiedText
+pub mod EmptyText
+pub mod OppositeOrders

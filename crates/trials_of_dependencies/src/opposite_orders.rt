@@ -1,0 +1,93 @@
+//! The grammar whose rules take the attributes of a child in opposite orders.
+ghost use Rattle.std.specs.Prelude.{◌≡◌, IfOk};
+ghost use Rattle.trials_of_dependencies.specs.OppositeOrders.{symbols as two_symbols, rules as three_rules, shapes as three_shapes, out_of_S, X_rule, A_rule, B_rule};
+
+use crate::parts::{
+    attribute, computation, occurrence, one, plain_shape, rule, symbol, three, two,
+};
+use flat_grammar::{Flat, FlatComp, FlatExpr, FlatRule, FlatSymbol, Shape};
+use lido_base::{Kind, List, Memory, SymId, Value, ValueType};
+use std::alloc::Global;
+
+/// X with s1, i1, s2 and i2; S with $out.
+fn symbols(alloc: Global) -> Result<List<FlatSymbol>, Memory>
+    ensures { IfOk result (λ list. list ≡ two_symbols) }
+{
+    let s1 = attribute(20, Kind::Synthesized, ValueType::Int);
+    let i1 = attribute(21, Kind::Inherited, ValueType::Int);
+    let s2 = attribute(22, Kind::Synthesized, ValueType::Int);
+    let i2 = attribute(23, Kind::Inherited, ValueType::Int);
+    let out = attribute(24, Kind::Synthesized, ValueType::Text);
+    let mut attrs = three(alloc, s1, i1, s2)?;
+    attrs.push(i2)?;
+    let x = symbol(0, None, attrs);
+    two(alloc, x, symbol(1, None, one(alloc, out)?))
+}
+
+/// S.$out is nothing.
+fn out_of_s(alloc: Global) -> FlatComp
+    ensures { result ≡ out_of_S }
+{
+    computation(alloc, occurrence(0, 0), FlatExpr::Value(Value::Void))
+}
+
+/// The rule rX: X.s1 is X.i1, X.s2 is X.i2.
+fn rule_of_x(alloc: Global) -> Result<FlatRule, Memory>
+    ensures { IfOk result (λ r. r ≡ X_rule) }
+{
+    let s1 = computation(alloc, occurrence(0, 0), FlatExpr::Read(occurrence(0, 1)));
+    let s2 = computation(alloc, occurrence(0, 2), FlatExpr::Read(occurrence(0, 3)));
+    Ok(rule(10, 0, List::new(alloc), two(alloc, s1, s2)?))
+}
+
+/// The rule rA: X.i1 is X.s2, X.i2 is 0.
+fn rule_of_a(alloc: Global) -> Result<FlatRule, Memory>
+    ensures { IfOk result (λ r. r ≡ A_rule) }
+{
+    let i1 = computation(alloc, occurrence(1, 1), FlatExpr::Read(occurrence(1, 2)));
+    let i2 = computation(alloc, occurrence(1, 3), FlatExpr::Value(Value::Int(0)));
+    let comps = three(alloc, i1, i2, out_of_s(alloc))?;
+    Ok(rule(11, 1, one(alloc, SymId(0))?, comps))
+}
+
+/// The rule rB: X.i2 is X.s1, X.i1 is 0.
+fn rule_of_b(alloc: Global) -> Result<FlatRule, Memory>
+    ensures { IfOk result (λ r. r ≡ B_rule) }
+{
+    let i2 = computation(alloc, occurrence(1, 3), FlatExpr::Read(occurrence(1, 0)));
+    let i1 = computation(alloc, occurrence(1, 1), FlatExpr::Value(Value::Int(0)));
+    let comps = three(alloc, i2, i1, out_of_s(alloc))?;
+    Ok(rule(12, 1, one(alloc, SymId(0))?, comps))
+}
+
+/// The three rules.
+fn rules(alloc: Global) -> Result<List<FlatRule>, Memory>
+    ensures { IfOk result (λ list. list ≡ three_rules) }
+{
+    three(
+        alloc,
+        rule_of_x(alloc)?,
+        rule_of_a(alloc)?,
+        rule_of_b(alloc)?,
+    )
+}
+
+/// The shapes of the three rules.
+fn shapes(alloc: Global) -> Result<List<Shape>, Memory>
+    ensures { IfOk result (λ list. list ≡ three_shapes) }
+{
+    let x = plain_shape(0, List::new(alloc));
+    let a = plain_shape(1, one(alloc, SymId(0))?);
+    let b = plain_shape(2, one(alloc, SymId(0))?);
+    three(alloc, x, a, b)
+}
+
+/// The grammar.
+pub fn grammar(alloc: Global) -> Result<Flat, Memory> {
+    Ok(Flat {
+        symbols: symbols(alloc)?,
+        rules: rules(alloc)?,
+        shapes: shapes(alloc)?,
+        root: SymId(1),
+    })
+}

@@ -1,9 +1,9 @@
 -- What the tests of the progress say of the construction's choice.
 use Rattle.std.specs.Prelude.{All, Contains, slice_get, slice_index, map, IsSome, IsBitSet, ◌↔◌, MatchOption, take, IsTrue, IfOk}
-use Rattle.std.proofs.Common.{◌≡◌, ℕ, zero, suc, ◌<◌, ◌≤◌, ◌+◌, ◌⊎◌, inl, inr, List, [], ◌∷◌, length, get_or, Option, Some, None, Result, Ok, Err, refl, arith, ap, sym, subst, ◌∙◌}
+use Rattle.std.proofs.Common.{◌≡◌, ℕ, zero, suc, ◌<◌, ◌≤◌, ◌+◌, ◌⊎◌, inl, inr, List, [], ◌∷◌, length, get_or, Option, Some, Result, Ok, Err, refl, arith, ap, sym, subst, ◌∙◌}
 use Rattle.std.proofs.lemmas.Bool.{cases_lt}
 use Rattle.std.proofs.lemmas.Option.{slice_get_within, slice_get-get_or}
-use Rattle.std.proofs.lemmas.List.Elements.{All-contains, All-weaker, All-more}
+use Rattle.std.proofs.lemmas.List.Elements.{All-contains, All-weaker}
 use Rattle.lido_base.specs.declared.ids.SymId.{SymId}
 use Rattle.lido_base.specs.declared.ids.AttrId.{AttrId}
 use Rattle.flat_grammar.specs.declared.flat.Occ.{Occ}
@@ -26,9 +26,7 @@ use Rattle.flat_grammar.proofs.Lists.{held, contains-nil, contains-cons, contain
 use Rattle.visit_sequences.specs.declared.goals.Goal.{Goal}
 use Rattle.visit_sequences.specs.declared.progress.Progress.{Progress}
 use Rattle.visit_sequences.specs.Steps.{row_of, IsBefore, IsGoal, AreGoals, HasBit, Follows, IsOpen, HasAll, IsReadyAt, IsNextAt, Owes, IsLeastChild, IsNoChild}
-use Rattle.visit_sequences.proofs.ClosedWalks.{at_most-further}
 use Rattle.visit_sequences.proofs.Classes.{row-there}
-use Rattle.visit_sequences.proofs.BitsLemmas.{taken-more, taken-here}
 use Rattle.visit_sequences.proofs.Occurrences.{rule-is}
 use Rattle.visit_sequences.proofs.StepLemmas.{row-class, class-row}
 
@@ -198,33 +196,6 @@ module _ (symbols : List FlatSymbol) (rules : List FlatRule) (visits : List (Lis
     pub chosen-leave : (n : ℕ) → n ≡ p.segment → All (λ g. IsOpen p g → ⊥) goals → (Owes visits r p goals → IsNoChild r (IsReadyAt visits r p)) → (p.segment ≡ length (row_of visits r 0) → IsNoChild r (IsNextAt visits r p))
         → IsChosen symbols rules visits r Before (Leave n)
     chosen-leave n e none idle over = subst (λ k. IsChosen symbols rules visits r Before (Leave k)) (sym (e ∙ follows.segment)) (leave (quiet-is none) (no-ready_visit idle) (no-next over))
-
--- the least of the goals that are ready, if there is one
-abbrev pub IsLeastOpen : Progress → List Goal → Option Occ → Type 0
-IsLeastOpen p goals least = MatchOption least (All (λ g. IsOpen p g → ⊥) goals) (λ o. ((g : Goal) × Contains goals g × IsOpen p g × (g.goal ≡ o)) × All (λ g. IsOpen p g → IsAtMost o g.goal) goals)
-
-module _ (p : Progress) (goals : List Goal) (i : ℕ) (g : Goal) (h : i < length goals) (at : g ≡ get_or goals i g) where
-  more : (P : Goal → Type 0) → All P (take i goals) → P g → All P (take (i + 1) goals)
-  more P all one = All-more P goals i g h all (subst P at one)
-
-  still : (x : Goal) → Contains (take i goals) x → Contains (take (i + 1) goals) x
-  still x m = taken-more goals i g x h m
-
-  here : Contains (take (i + 1) goals) g
-  here = subst (λ x. Contains (take (i + 1) goals) x) (sym at) (taken-here goals i g h)
-
-  pub least-skip : (least : Option Occ) → IsLeastOpen p (take i goals) least → (IsOpen p g → ⊥) → IsLeastOpen p (take (i + 1) goals) least
-  least-skip None all n = more (λ x. IsOpen p x → ⊥) all n
-  least-skip (Some o) ((x, m, opens, e), all) n = ((x, still x m, opens, e), more (λ x. IsOpen p x → IsAtMost o x.goal) all (λ q. absurd (n q)))
-
-  pub least-take : (least : Option Occ) (o : Occ) → IsLeastOpen p (take i goals) least → IsOpen p g → IsAtMost o g.goal → MatchOption least (o ≡ g.goal) (λ q. IsAtMost o q × ((o ≡ q) ⊎ (o ≡ g.goal))) → IsLeastOpen p (take (i + 1) goals) (Some o)
-  least-take None o all opens below same = ((g, here, opens, sym same), more (λ x. IsOpen p x → IsAtMost o x.goal) (All-weaker (λ x. IsOpen p x → ⊥) (λ x. IsOpen p x → IsAtMost o x.goal) (λ x n q. absurd (n q)) (take i goals) all) (λ q. below))
-  least-take (Some q) o ((x, m, opens', e), all) opens below (under, either) =
-      (found either, more (λ x. IsOpen p x → IsAtMost o x.goal) (All-weaker (λ x. IsOpen p x → IsAtMost q x.goal) (λ x. IsOpen p x → IsAtMost o x.goal) (λ x f z. at_most-further o q x.goal under (f z)) (take i goals) all) (λ z. below))
-    where
-      found : (o ≡ q) ⊎ (o ≡ g.goal) → (y : Goal) × Contains (take (i + 1) goals) y × IsOpen p y × (y.goal ≡ o)
-      found (inl s) = (x, still x m, opens', e ∙ sym s)
-      found (inr s) = (g, here, opens, sym s)
 
 -- no child up to one more
 pub none-more : (P : ℕ → Type 0) (k : ℕ) → ((j : ℕ) → 0 < j → j ≤ k → P j → ⊥) → (P (k + 1) → ⊥) → (j : ℕ) → 0 < j → j ≤ k + 1 → P j → ⊥

@@ -11,3 +11,4 @@ pub mod StepLemmas
 pub mod TakeLemmas
 pub mod ChoiceLemmas
 pub mod MeasureLemmas
+pub mod QueueLemmas

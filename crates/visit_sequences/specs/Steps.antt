@@ -6,12 +6,16 @@ use Rattle.flat_grammar.specs.declared.flat.Occ.{Occ}
 use Rattle.flat_grammar.specs.declared.flat.FlatSymbol.{FlatSymbol}
 use Rattle.flat_grammar.specs.declared.flat.FlatRule.{FlatRule}
 use Rattle.flat_grammar.specs.declared.plan.VisitClass.{VisitClass}
+use Rattle.flat_grammar.specs.declared.plan.PlanItem.{PlanItem}
+use Rattle.flat_grammar.specs.declared.plan.PlanItem.TheVariants.{Eval, Visit, Leave}
 use Rattle.flat_grammar.specs.Rules.{symbol_at, symbols_of}
 use Rattle.flat_grammar.specs.Dependencies.{DP, IDS}
 use Rattle.flat_grammar.specs.Partition.{IsEarlier}
 use Rattle.flat_grammar.specs.SoundPlan.{goals_of, segment_after, visits_made, IsEvaluated, IsAtHand}
 use Rattle.visit_sequences.specs.declared.goals.Goal.{Goal}
 use Rattle.visit_sequences.specs.declared.progress.Progress.{Progress}
+use Rattle.visit_sequences.specs.declared.queue.Waiting.{Waiting}
+use Rattle.visit_sequences.specs.declared.queue.Queue.{Queue}
 
 -- the visits of the symbol at an occurrence, none where there is no symbol
 abbrev pub row_of : List (List VisitClass) → FlatRule → ℕ → List VisitClass
@@ -120,3 +124,53 @@ IsLeastChild r P k = (0 < k) × (k ≤ length r.right) × P k × ((j : ℕ) → 
 -- it holds of no child
 abbrev pub IsNoChild : FlatRule → (ℕ → Type 0) → Type 0
 IsNoChild r P = (j : ℕ) → 0 < j → j ≤ length r.right → ¬ P j
+
+-- the goal waits for this
+abbrev pub Needs : Goal → Occ → Type 0
+Needs g u = ((u.occ ≡ g.goal.occ) × IsBitSet g.same u.attr.0) ⊎ Contains g.direct.items u
+
+-- all that the goal waits for is at hand
+abbrev pub IsFree : Progress → Goal → Type 0
+IsFree p g = (u : Occ) → Needs g u → HasBit p.at_hand.items u
+
+-- not all that the goal waits for at this occurrence is at hand
+abbrev pub IsBlockedAt : Progress → Goal → ℕ → Type 0
+IsBlockedAt p g k = ((u : Occ) → Needs g u → u.occ ≡ k → HasBit p.at_hand.items u) → ⊥
+
+-- the goal at this place of the list waits at the occurrence
+abbrev pub Waits : Queue → ℕ → ℕ → Type 0
+Waits q k i = (w : Waiting) × (slice_get q.waiting.items k ≡ Some w) × Contains w.goals.items i
+
+-- all that is free or waits still does
+pub record Keeps (old new : Queue) : Type 0 where
+  pub each : length new.free.items ≡ length old.free.items
+  pub free : (o : Occ) → HasBit old.free.items o → HasBit new.free.items o
+  pub waits : (k i : ℕ) → Waits old k i → Waits new k i
+
+-- the goals that are free have all that they wait for
+abbrev pub AreFree : Progress → List Goal → Queue → Type 0
+AreFree p goals q = (o : Occ) → HasBit q.free.items o → (g : Goal) × Contains goals g × (g.goal ≡ o) × IsFree p g
+
+-- the goal is free, or it waits at an occurrence where something is not at hand
+abbrev pub StandsIn : Progress → Queue → ℕ → Goal → Type 0
+StandsIn p q i g = HasBit q.free.items g.goal ⊎ ((k : ℕ) × Waits q k i × IsBlockedAt p g k)
+
+-- the queue says of each goal how it stands
+pub record Sorts (p : Progress) (goals : List Goal) (q : Queue) : Type 0 where
+  pub free : AreFree p goals q
+  pub stands : (i : ℕ) (g : Goal) → slice_get goals i ≡ Some g → StandsIn p q i g
+
+-- what is at hand stays, and more of it is only at this occurrence
+pub record Changes (old new : Progress) (k : ℕ) : Type 0 where
+  pub stays : (u : Occ) → HasBit old.at_hand.items u → HasBit new.at_hand.items u
+  pub there : (u : Occ) → HasBit new.at_hand.items u → HasBit old.at_hand.items u ⊎ (u.occ ≡ k)
+
+-- the occurrence that an item is about
+abbrev pub place_of : PlanItem → ℕ
+place_of (Eval o) = o.occ
+place_of (Visit k v) = k
+place_of (Leave v) = 0
+
+-- the goal is free, and not evaluated
+abbrev pub IsLeft : Progress → Queue → Occ → Type 0
+IsLeft p q o = HasBit q.free.items o × ¬ HasBit p.evaluated.items o

@@ -1,37 +1,35 @@
 //! The item that the construction chooses next.
-ghost use Rattle.std.specs.Prelude.{◌≡◌, ◌↔◌, ◌⊎◌, ◌+◌, ◌^◌, ◌<◌, ◌≤◌, suc, ℕ, All, Contains, length, IsTrue, IfOk, MatchOption, slice_index};
+ghost use Rattle.std.specs.Prelude.{◌≡◌, ◌↔◌, ◌⊎◌, ◌+◌, ◌^◌, ◌<◌, ◌≤◌, suc, ℕ, All, Contains, length, IsBitSet, IsTrue, IfOk, MatchOption, slice_index};
 ghost use Rattle.flat_grammar.specs.declared.flat.Occ.{Occ as Occurrence};
 ghost use Rattle.flat_grammar.specs.Construction.{IsChosen};
 ghost use Rattle.flat_grammar.specs.Cycles.{IsAtMost};
 ghost use Rattle.flat_grammar.specs.Partition.{AreAllVisits};
 ghost use Rattle.flat_grammar.specs.declared.plan.PlanItem.TheVariants.{Visit};
 ghost use Rattle.visit_sequences.specs.declared.goals.Goal.{Goal as Waiting};
-ghost use Rattle.visit_sequences.specs.Steps.{AreGoals, Follows, HasBit, HasLeft, IsLeastChild, IsNextAt, IsNoChild, IsOfUseFrom, IsOpen, IsReadyAt, Owes, OwesClass, row_of};
+ghost use Rattle.visit_sequences.specs.Steps.{AreGoals, Follows, HasBit, HasLeft, IsLeastChild, IsLeft, IsNextAt, IsNoChild, IsOfUseFrom, IsOpen, IsReadyAt, Owes, OwesClass, Sorts, row_of};
 
 use crate::goals::Goal;
 use crate::progress::Progress;
+use crate::queue::Queue;
 use crate::rows::row_at;
-use flat_grammar::bits::is_within;
+use flat_grammar::bits::has;
 use flat_grammar::{Flat, FlatRule, Occ, Parts, PlanItem, VisitClass};
-use lido_base::{List, Memory};
+use lido_base::{AttrId, List, Memory};
 
-/// Whether the first occurrence comes before the other.
-fn comes_before(o: Occ, p: Occ) -> bool
-    ensures yes { IsTrue result → IsAtMost o p }
-    ensures no { ¬ IsTrue result → IsAtMost p o }
+/// The least number that is in the one set and not in the other.
+fn least_new(set: u128, old: u128) -> Option<u16>
+    ensures { MatchOption result ((j : ℕ) → IsBitSet set j → IsBitSet old j)
+        (λ k. (k < 128) × IsBitSet set k × ¬ IsBitSet old k × ((j : ℕ) → j < k → IsBitSet set j → IsBitSet old j)) }
 {
-    o.occ < p.occ || o.occ == p.occ && o.attr.0 < p.attr.0
-}
-
-/// The lesser one of what was the least so far and another.
-fn lesser(least: Option<Occ>, o: Occ) -> Occ
-    ensures other { IsAtMost result o }
-    ensures so_far { MatchOption least (result ≡ o) (λ p. IsAtMost result p × ((result ≡ p) ⊎ (result ≡ o))) }
-{
-    match least {
-        None => o,
-        Some(p) => { if comes_before(o, p) { o } else { p } }
+    if set == old {
+        return None;
     }
+    for k in 0..128u16 {
+        if has(set, k as usize) && !has(old, k as usize) {
+            return Some(k);
+        }
+    }
+    None
 }
 
 /// A visit's number, if it is one of 16 bits. A symbol has no more visits than attributes, and one at least.
@@ -58,39 +56,42 @@ fn is_of_use(row: &[VisitClass], from: usize) -> bool
 }
 
 impl Progress {
-    /// Whether all these occurrences are at hand.
-    fn has_direct(&self, direct: &[Occ]) -> bool
-        ensures { IsTrue result ↔ ((u : Occurrence) → Contains direct.now u → HasBit self.now.at_hand.items u) }
+    /// The least free goal of the occurrence that is not evaluated.
+    fn least_at(&self, queue: &Queue, occ: u16) -> Option<Occ>
+        ensures { MatchOption result ((o : Occurrence) → o.occ ≡ occ → ¬ IsLeft self.now queue.now o)
+            (λ o. (o.occ ≡ occ) × IsLeft self.now queue.now o × ((p : Occurrence) → p.occ ≡ occ → IsLeft self.now queue.now p → IsAtMost o p)) }
     {
-        for o in direct {
-            if !self.is_at_hand(*o) {
-                return false;
-            }
-        }
-        true
+        let free = queue.free.get(occ as usize).copied().unwrap_or(0);
+        let evaluated = self.evaluated.get(occ as usize).copied().unwrap_or(0);
+        let attr = least_new(free, evaluated)?;
+        Some(Occ {
+            occ,
+            attr: AttrId(attr),
+        })
     }
 
-    /// Whether the goal is not evaluated and all that it waits for is at hand.
-    fn is_ready(&self, goal: &Goal) -> bool
-        ensures { IsTrue result ↔ IsOpen self.now goal.now }
+    /// The least goal that is free and not evaluated.
+    fn least_left(&self, queue: &Queue) -> Option<Occ>
+        requires { length queue.now.free.items ≤ 2 ^ 16 }
+        ensures { MatchOption result ((o : Occurrence) → ¬ IsLeft self.now queue.now o)
+            (λ o. IsLeft self.now queue.now o × ((p : Occurrence) → IsLeft self.now queue.now p → IsAtMost o p)) }
     {
-        !self.is_evaluated(goal.goal)
-            && is_within(goal.same, self.at_hand_at(goal.goal.occ))
-            && self.has_direct(goal.direct.as_slice())
+        for k in 0..queue.free.len() {
+            if let Some(goal) = self.least_at(queue, k as u16) {
+                return Some(goal);
+            }
+        }
+        None
     }
 
     /// The least evaluation that is ready.
-    fn least_ready(&self, goals: &[Goal]) -> Option<Occ>
+    fn least_ready(&self, goals: &[Goal], queue: &Queue) -> Option<Occ>
+        requires sorts { Sorts self.now goals.now queue.now }
+        requires few { length queue.now.free.items ≤ 2 ^ 16 }
         ensures { MatchOption result (All (λ g. ¬ IsOpen self.now g) goals.now)
             (λ o. ((g : Waiting) × Contains goals.now g × IsOpen self.now g × (g.goal ≡ o)) × All (λ g. IsOpen self.now g → IsAtMost o g.goal) goals.now) }
     {
-        let mut least = None;
-        for goal in goals {
-            if self.is_ready(goal) {
-                least = Some(lesser(least, goal.goal));
-            }
-        }
-        least
+        self.least_left(queue)
     }
 
     /// Whether the present visit's synthesized attributes are not all evaluated.
@@ -221,15 +222,18 @@ impl Progress {
         parts: &Parts,
         rule: &FlatRule,
         goals: &[Goal],
+        queue: &Queue,
     ) -> Result<PlanItem, Memory>
         requires visits { AreAllVisits flat.now.symbols flat.now.rules parts.now.visits }
         requires rule { Contains flat.now.rules rule.now }
         requires goals { AreGoals flat.now.symbols flat.now.rules rule.now goals.now }
         requires follows { Follows parts.now.visits rule.now self.now }
+        requires sorts { Sorts self.now goals.now queue.now }
+        requires few { length queue.now.free.items ≤ 2 ^ 16 }
         ensures { IfOk result (IsChosen flat.now.symbols flat.now.rules parts.now.visits rule.now self.now.items.items) }
     {
         let visits = parts.visits.as_slice();
-        if let Some(goal) = self.least_ready(goals) {
+        if let Some(goal) = self.least_ready(goals, queue) {
             return Ok(PlanItem::Eval(goal));
         }
         if let Some(occ) = self.owed_child(visits, rule, goals) {

@@ -7,6 +7,7 @@ mod goals;
 pub mod laws;
 mod plan;
 mod progress;
+mod queue;
 mod rows;
 
 pub use plan::sequences;

@@ -6,9 +6,11 @@ ghost use Rattle.flat_grammar.specs.Dependencies.{AreInducedRows};
 ghost use Rattle.flat_grammar.specs.Partition.{AreAllVisits};
 ghost use Rattle.flat_grammar.specs.SoundPlan.{IsSound};
 ghost use Rattle.flat_grammar.specs.declared.plan.PlanItem.TheVariants.{Leave};
+ghost use Rattle.visit_sequences.specs.Steps.{place_of};
 
 use crate::goals::goals;
 use crate::progress::Progress;
+use crate::queue::Queue;
 use crate::rows::row_at;
 use flat_grammar::{Deps, Flat, FlatRule, Parts, Plan, PlanItem, VisitClass};
 use lido_base::{List, Memory};
@@ -21,6 +23,17 @@ fn is_end(item: PlanItem, visit: usize) -> bool
     match item {
         PlanItem::Leave { visit: v } => v as usize == visit,
         _ => false,
+    }
+}
+
+/// The occurrence that the item is about.
+fn place(item: PlanItem) -> u16
+    ensures { result ≡ place_of item }
+{
+    match item {
+        PlanItem::Eval(goal) => goal.occ,
+        PlanItem::Visit { occ, .. } => occ,
+        PlanItem::Leave { .. } => 0,
     }
 }
 
@@ -40,12 +53,14 @@ fn sequence(
     let goals = goals(alloc, flat, deps, parts, rule)?;
     let last = row_at(parts.visits.as_slice(), rule, 0).len();
     let mut progress = Progress::start(alloc, flat, parts, rule)?;
+    let mut queue = Queue::start(alloc, &progress, &goals)?;
     loop {
-        let item = progress.choose(flat, parts, rule, &goals)?;
+        let item = progress.choose(flat, parts, rule, &goals, &queue)?;
         progress.take(flat, parts, rule, item)?;
         if is_end(item, last) {
             return Ok(List::from_vec(progress.into_items()));
         }
+        queue.wake(alloc, &progress, &goals, place(item))?;
     }
 }
 

@@ -3,7 +3,7 @@ ghost use Rattle.std.specs.Prelude.{◌≡◌, ◌↔◌, ◌⊎◌, ◌++◌, �
 ghost use Rattle.lido_base.specs.declared.ids.AttrId.{AttrId as Attribute};
 ghost use Rattle.flat_grammar.specs.Construction.{IsChosen};
 ghost use Rattle.flat_grammar.specs.Partition.{AreAllVisits};
-ghost use Rattle.visit_sequences.specs.Steps.{Adds, Evaluates, Follows, HasBit, HasBitsOf, Passes, row_of};
+ghost use Rattle.visit_sequences.specs.Steps.{place_of, Adds, Changes, Evaluates, Follows, HasBit, HasBitsOf, Passes, row_of};
 
 use crate::bits::{members, with};
 use crate::rows::row_at;
@@ -27,7 +27,7 @@ pub struct Progress {
 }
 
 /// So many empty sets.
-fn empty_sets(alloc: Global, count: usize) -> Result<Vec<u128>, AllocError>
+pub fn empty_sets(alloc: Global, count: usize) -> Result<Vec<u128>, AllocError>
     ensures { IfOk result (λ sets. sets.items ≡ replicate count 0) }
 {
     vec![in alloc; 0u128; count]
@@ -212,6 +212,7 @@ impl Progress {
         requires chosen { IsChosen flat.now.symbols flat.now.rules parts.now.visits rule.now self.old.items.items item }
         ensures items { OnOk result (self.new.items.items ≡ self.old.items.items ++ item ∷ []) }
         ensures follows { OnOk result (Follows parts.now.visits rule.now self.new) }
+        ensures changes { OnOk result (Changes self.old self.new (place_of item)) }
     {
         self.items.push(item)?;
         let visits = parts.visits.as_slice();

@@ -1,47 +1,59 @@
 use Rattle.std.specs.Prelude.{unwrap_or}
-use Rattle.std.proofs.Common.{◌≡◌, ◌<◌, ◌≤◌, ◌∙◌, List, [], Option, ap, sym, subst, length, true≢false}
+use Rattle.std.proofs.Common.{◌≡◌, ◌<◌, ◌≤◌, ◌∙◌, List, [], Option, ap, sym, subst, length, true≢false, arith}
 use Rattle.flat_grammar.specs.declared.plan.PlanItem.TheVariants.{Leave}
 use Rattle.flat_grammar.specs.declared.plan.VisitClass.{VisitClass}
 use Rattle.flat_grammar.specs.Construction.{IsConstructed}
 use Rattle.flat_grammar.specs.SoundPlan.{segment_after}
-use Rattle.visit_sequences.specs.Steps.{row_of}
+use Rattle.visit_sequences.specs.Steps.{row_of, Sorts, Changes}
 use Rattle.visit_sequences.proofs.Classes.{row-there}
 use Rattle.visit_sequences.proofs.Occurrences.{rule-is}
 use Rattle.visit_sequences.proofs.MeasureLemmas.{left_over, chosen-drops, still-within, EachChosen, each-more, whole-sequence}
 use Rattle.visit_sequences.proofs.plan.sequence.Goals as goal
 
-pub loop-progress-smaller : goal.loop-progress-smaller
-loop-progress-smaller c =
+pub loop-queue-smaller : goal.loop-queue-smaller
+loop-queue-smaller c =
     let flat = c.args.flat.now in
     let visits = c.args.parts.now.visits in
     let r = c.args.rule.now in
-    let items = c.loop-progress.progress.items.items in
-    subst (λ l. left_over visits r l < left_over visits r items) (sym c.in_ok-take.ensures.items) (chosen-drops visits r flat.symbols flat.rules items c.in_ok-item.item c.in_ok-item.ensures c.loop-progress.invariant.within)
+    let items = c.loop-queue.progress.items.items in
+    subst (λ l. left_over visits r l < left_over visits r items) (sym c.in_ok-take.ensures.items) (chosen-drops visits r flat.symbols flat.rules items c.in_ok-item.item c.in_ok-item.ensures c.loop-queue.invariant.within)
 
-pub loop-progress-preserved : goal.loop-progress-preserved
-loop-progress-preserved c =
+pub loop-queue-preserved : goal.loop-queue-preserved
+loop-queue-preserved c =
     let flat = c.args.flat.now in
     let visits = c.args.parts.now.visits in
     let r = c.args.rule.now in
-    let items = c.loop-progress.progress.items.items in
+    let items = c.loop-queue.progress.items.items in
     let row : c.row_at-last.result.now ≡ row_of visits r 0 = c.row_at-last.ensures ∙ ap (λ (l : List (List VisitClass)). row_of l r 0) c.as_slice.ensures in
     record {
       follows = c.in_ok-take.ensures.follows;
-      chosen = subst (EachChosen visits r flat.symbols flat.rules) (sym c.in_ok-take.ensures.items) (each-more visits r flat.symbols flat.rules items c.in_ok-item.item c.loop-progress.invariant.chosen c.in_ok-item.ensures);
-      within = subst (λ l. segment_after l ≤ length (row_of visits r 0)) (sym c.in_ok-take.ensures.items) (still-within visits r flat.symbols flat.rules items c.in_ok-item.item c.in_ok-item.ensures c.loop-progress.invariant.within
+      chosen = subst (EachChosen visits r flat.symbols flat.rules) (sym c.in_ok-take.ensures.items) (each-more visits r flat.symbols flat.rules items c.in_ok-item.item c.loop-queue.invariant.chosen c.in_ok-item.ensures);
+      within = subst (λ l. segment_after l ≤ length (row_of visits r 0)) (sym c.in_ok-take.ensures.items) (still-within visits r flat.symbols flat.rules items c.in_ok-item.item c.in_ok-item.ensures c.loop-queue.invariant.within
           (λ e. true≢false (sym (c.is_end.ensures.1 (e ∙ ap (λ (l : List VisitClass). Leave (length l)) (sym row))) ∙ c.if-is_end.false)));
+      sorts = subst (λ l. Sorts c.take.new.self l c.wake.new.self) c.deref-in-loop-queue-2.ensures.value c.in_ok-wake.ensures.sorts;
+      few = (let e = c.in_ok-wake.ensures.each in let f = c.loop-queue.invariant.few in omega (arith, e, f));
     }
+
+pub choose-requires-clause-sorts : goal.choose-requires-clause-sorts
+choose-requires-clause-sorts c = subst (λ l. Sorts c.loop-queue.progress l c.loop-queue.queue) (sym c.deref-in-loop-queue.ensures.value) c.loop-queue.invariant.sorts
+
+pub wake-requires : goal.wake-requires
+wake-requires c = (
+  c.loop-queue.progress,
+  subst (λ l. Sorts c.loop-queue.progress l c.loop-queue.queue) (sym c.deref-in-loop-queue-2.ensures.value) c.loop-queue.invariant.sorts,
+  subst (λ k. Changes c.loop-queue.progress c.take.new.self k) (sym c.place.ensures) c.in_ok-take.ensures.changes,
+)
 
 pub returns-then-is_end : goal.returns-then-is_end
 returns-then-is_end c =
     let flat = c.args.flat.now in
     let visits = c.args.parts.now.visits in
     let r = c.args.rule.now in
-    let items = c.loop-progress.progress.items.items in
+    let items = c.loop-queue.progress.items.items in
     let item = c.in_ok-item.item in
     let row : c.row_at-last.result.now ≡ row_of visits r 0 = c.row_at-last.ensures ∙ ap (λ (l : List (List VisitClass)). row_of l r 0) c.as_slice.ensures in
     let left = row-there flat.symbols flat.rules visits c.requires.visits r.left (rule-is flat.symbols flat.rules flat.shapes flat.root flat.well_formed r c.requires.rule).left_side in
-    let each = each-more visits r flat.symbols flat.rules items item c.loop-progress.invariant.chosen c.in_ok-item.ensures in
+    let each = each-more visits r flat.symbols flat.rules items item c.loop-queue.invariant.chosen c.in_ok-item.ensures in
     let end : item ≡ Leave (length (row_of visits r 0)) = c.is_end.ensures.0 c.if-is_end.true ∙ ap (λ (l : List VisitClass). Leave (length l)) row in
     subst (IsConstructed flat.symbols flat.rules visits r) (sym (c.from_vec.ensures ∙ (ap (λ v. v.items) c.into_items.ensures ∙ c.in_ok-take.ensures.items)))
     (whole-sequence visits r flat.symbols flat.rules items item left.0 left.1 (ap (λ (o : Option (List VisitClass)). length (unwrap_or o [])) left.1) each end)

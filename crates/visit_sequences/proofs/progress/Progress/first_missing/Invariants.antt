@@ -1,7 +1,7 @@
 use Rattle.std.specs.Prelude.{Contains, take}
 use Rattle.flat_grammar.specs.declared.flat.Occ.{Occ}
 use Rattle.visit_sequences.specs.Steps.{HasBit}
-use Rattle.visit_sequences.proofs.progress.Progress.has_direct.Given as goal
+use Rattle.visit_sequences.proofs.progress.Progress.first_missing.Given as goal
 
 -- those so far are at hand
 abbrev pub invariant-loop-o : goal.invariant-loop-o

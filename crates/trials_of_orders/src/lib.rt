@@ -1,0 +1,6 @@
+//! Small grammars that go through the whole analysis of orders. Nothing stands on this crate.
+#![tactic(auto)]
+
+pub mod crossed_uses;
+#[cfg(test)]
+mod tests;

@@ -1,5 +1,5 @@
 //! The analysis of orders from end to end, on tables of grammars.
-use crate::crossed_uses;
+use crate::{clashing_contexts, crossed_uses};
 use flat_grammar::{Cycle, Deps, Flat, Label, Parts, Plan, PlanItem, VisitClass};
 use induced_deps::induce;
 use lido_base::{AttrId, Memory};
@@ -14,6 +14,7 @@ use visit_sequences::sequences;
 #[derive(Clone, Copy)]
 enum Grammar {
     BareLeaf,
+    ClashingContexts,
     CrossedUses,
     LateInherited,
     TwoVisits,
@@ -47,16 +48,17 @@ const ORDERED: [(Grammar, &[u8], &[u8], &[u8]); 3] = [
 
 /// Grammars with their induced dependencies, and the rule that has a cycle, with the cycle: `12p` is an edge from attribute 2 at
 /// occurrence 1 that stands there by the partition, with `d` it is direct, with `i` induced.
-const CIRCULAR: [(Grammar, &[u8], &[u8]); 1] = [(
-    Grammar::CrossedUses,
-    b"0;00;",
-    b"0: 10p 11d 20p 21d",
-)];
+/// The clashing contexts have other cycles too, none of which needs the partition; any of them would be right.
+const CIRCULAR: [(Grammar, &[u8], &[u8]); 2] = [
+    (Grammar::CrossedUses, b"0;00;", b"0: 10p 11d 20p 21d"),
+    (Grammar::ClashingContexts, b"ffff;0;", b"0: 00i"),
+];
 
 /// The grammar's value.
 fn flat_of(alloc: Global, which: Grammar) -> Result<Flat, Memory> {
     match which {
         Grammar::BareLeaf => bare_leaf::grammar(alloc),
+        Grammar::ClashingContexts => clashing_contexts::grammar(alloc),
         Grammar::CrossedUses => crossed_uses::grammar(alloc),
         Grammar::LateInherited => late_inherited::grammar(alloc),
         Grammar::TwoVisits => two_visits::grammar(alloc),

@@ -3,7 +3,7 @@
 
 pub mod bare_leaf;
 pub mod late_inherited;
-mod parts;
+pub mod parts;
 #[cfg(test)]
 mod tests;
 pub mod two_visits;

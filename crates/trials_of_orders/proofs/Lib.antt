@@ -1,0 +1,2 @@
+pub mod NoArgument
+pub mod WellFormedGrammar

@@ -1,0 +1,13 @@
+pub mod PhrasesLemmas
+pub mod PlacesLemmas
+pub mod ExpressionsLemmas
+pub mod ComputationsLemmas
+pub mod PartsLemmas
+pub mod DeclarationsLemmas
+pub mod RightSidesLemmas
+pub mod TextsLemmas
+pub mod NamesOfRulesLemmas
+pub mod BodiesLemmas
+pub mod SymbolsLemmas
+pub mod ItemsLemmas
+pub mod WholeLemmas

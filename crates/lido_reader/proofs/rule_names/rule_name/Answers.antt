@@ -1,0 +1,9 @@
+use Rattle.lido_reader.specs.Items.{called_in}
+use Rattle.lido_reader.proofs.NamesOfRulesLemmas.{named, unnamed}
+use Rattle.lido_reader.proofs.rule_names.rule_name.Goals as goal
+
+pub returns-in-Some-clause-reads : goal.returns-in-Some-clause-reads
+returns-in-Some-clause-reads c = λ texts later. named (called_in texts) c.args.number c.args.tokens.now c.in-Some.rest.now c.in-Some.name c.in-Some.ensures.seen
+
+pub returns-clause-reads : goal.returns-clause-reads
+returns-clause-reads c = λ texts later. unnamed (called_in texts) c.args.number c.in_ok-id.id c.args.tokens.now (c.in_ok-id.ensures.id texts later) c.in_default.ensures.seen

@@ -1,0 +1,31 @@
+-- A whole specification, and what the reader answers.
+use Rattle.std.specs.Prelude.{◌≡◌, ℕ, List, [], drop, Result, Ok, Err}
+use Rattle.lido_base.specs.Reading.{IsFaultPlace}
+use Rattle.lido_base.specs.Texts.{IsDistinctTexts}
+use Rattle.lido_lexer.specs.Lexing.{Gains}
+use Rattle.lido_lexer.specs.declared.token.Token.{Token}
+use Rattle.lido_syntax.specs.declared.spec.Spec.{Spec}
+use Rattle.lido_reader.specs.declared.fault.ReadSpecFault.{ReadSpecFault}
+use Rattle.lido_reader.specs.declared.fault.ReadSpecFault.TheVariants.{Syntax, Memory}
+use Rattle.lido_reader.specs.Phrases.{place_of}
+use Rattle.lido_reader.specs.Items.{IsSpec, called_in}
+use Rattle.lido_reader.specs.Computations.{IsComputation}
+
+-- these texts, and maybe more behind them, none twice
+pub record IsLater (texts later : List (List ℕ)) : Type 0 where
+  pub gains : Gains texts later
+  pub distinct : IsDistinctTexts later
+
+-- The tokens are a specification, whose names are ids of these texts.
+abbrev pub IsSpecOf : List (List ℕ) → List Token → Spec → Type 0
+IsSpecOf texts tokens spec = IsSpec (called_in texts) (IsComputation texts) tokens spec []
+
+-- The tokens are a specification.
+abbrev pub IsSpecification : List (List ℕ) → List Token → Type 0
+IsSpecification texts tokens = (spec : Spec) × IsSpecOf texts tokens spec
+
+-- The specification that the tokens are; or the place of the first token with which they begin none, or the end of the text.
+abbrev pub IsReading : List (List ℕ) → List Token → ℕ → Result Spec ReadSpecFault → Type 0
+IsReading texts tokens text_end (Ok spec) = IsSpecOf texts tokens spec
+IsReading texts tokens text_end (Err (Syntax at)) = (k : ℕ) × IsFaultPlace (IsSpecification texts) tokens k × (at ≡ place_of text_end (drop k tokens))
+IsReading texts tokens text_end (Err Memory) = ⊥

@@ -13,3 +13,4 @@ pub mod ItemsLemmas
 pub mod WholeLemmas
 pub mod RenamingLemmas
 pub mod SameSpecificationLemmas
+pub mod SamePlaceLemmas

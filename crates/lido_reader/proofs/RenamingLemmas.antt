@@ -45,10 +45,12 @@ module _ (ids : StrId → StrId) where
 
   pub then_moves : {A B X Y : Type 0} {F : List Token → A → List Token → Type 0} {G : List Token → B → List Token → Type 0} {R : A → List Token → X → List Token → Type 0} {S : B → List Token → Y → List Token → Type 0}
       → Moves F G → ((a : A) (b : B) → Moves (R a) (S b)) → Moves (Then F R) (Then G S)
-  then_moves f r = record { move = λ ts x us p.
-    let (b, q) = f.move ts p.value p.between p.first in
-    let (y, s) = (r p.value b).move p.between x us p.rest in
-    (y, record { value = b; between = all p.between; first = q; rest = s }) }
+  then_moves f r = record {
+    move = λ ts x us p.
+        let (b, q) = f.move ts p.value p.between p.first in
+        let (y, s) = (r p.value b).move p.between x us p.rest in
+        (y, record { value = b; between = all p.between; first = q; rest = s });
+  }
 
   sign_moved : (s : Sign) (ts : List Token) (x : Token) (us : List Token) → Signs s ts x us → (y : Token) × Signs s (all ts) y (all us)
   sign_moved s ts x us (token {t = t} e) = (renamed ids t, token (ap (renamed_kind ids) e))
@@ -224,7 +226,7 @@ module _ (ids : StrId → StrId) where
           let (u', c') = sign_moved sign.ParenClose ws closing zs c in
           ((expr.Call n' args'.0, args'.1), g, call p' o' spends' a' c')
       primary_moved s r ts e hs same (choice {r = left} {t = t} {opening = opening} {first = f} {second = g} {closing = closing} {us = us} {vs = vs} {ws = ws} {xs = xs} {ys = ys} {zs = zs} {gs = gs} {x = x} {y = y} {z = z} {e = whole}
-        is spends o p c q d n k called) =
+          is spends o p c q d n k called) =
           let (left', spends', b) = spent_moved s.budget r.budget s.number r.number left same spends in
           let (o0, o') = sign_moved sign.ParenOpen us opening vs o in
           let (x', b1, p') = expr_moved 0 left left' vs x ws b p in

@@ -120,7 +120,7 @@ module _ (ids : StrId → StrId) where
       (y, production q)
   right_moved ts x us (listof p) =
       let (y, q) = (then_moves ids (key_moves ids key.Listof) (λ a b. then_moves ids (then_moves ids (name_moves ids) (λ a b. repeats_moves IsFurtherListed IsFurtherListed
-        (λ f g. then_moves ids (sign_moves ids sign.Bar) (λ a b. then_moves ids (name_moves ids) (λ a b. done_moves ids _ _))) _ _)) (λ a b. done_moves ids _ _))).move ts x us p in
+      (λ f g. then_moves ids (sign_moves ids sign.Bar) (λ a b. then_moves ids (name_moves ids) (λ a b. done_moves ids _ _))) _ _)) (λ a b. done_moves ids _ _))).move ts x us p in
       (y, listof q)
 
   -- ---- bodies, rules, symbols

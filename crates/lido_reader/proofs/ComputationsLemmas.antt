@@ -18,14 +18,13 @@ use Rattle.lido_syntax.specs.declared.spec.Target.{Target}
 use Rattle.lido_syntax.specs.declared.spec.Target.TheVariants as target
 use Rattle.lido_syntax.specs.declared.spec.Comp.{Comp}
 use Rattle.lido_reader.specs.Phrases.{Done, Then, IsName, word, is_comma}
-use Rattle.lido_reader.specs.Places.{Optional, absent, present, IsPlace, named, by_word, IsContext, context, in_reads, in_targets, IsRead, IsIncluding, IsIncludingOf, AreConstituents, AreConstituentsOf, is_option, is_option_kind}
-use Rattle.lido_reader.specs.Counting.{most_operators}
-use Rattle.lido_reader.specs.Expressions.{IsExpr, continues}
+use Rattle.lido_reader.specs.Places.{absent, present, IsPlace, named, by_word, IsContext, context, in_reads, in_targets, IsRead, IsIncludingOf, AreConstituentsOf, is_option}
+use Rattle.lido_reader.specs.Expressions.{continues}
 use Rattle.lido_reader.specs.Computations as grammar
 use Rattle.lido_reader.specs.Computations.{IsDependency, AreMoreDependencies, AreSomeDependencies, AreDependencies, AreAfter, IsTarget, IsValue, IsComputation, is_arrow_kind, continues_after, continues_dependencies, continues_computation}
 use Rattle.lido_reader.specs.declared.counts.Counts.{Counts}
-use Rattle.lido_reader.proofs.PhrasesLemmas.{Completable, then_completable, done_completable, sees_completable, name_completable, Stops, never, past, fails, chosen, leads_self, sees_finds, IsWider, widens, ends}
-use Rattle.lido_reader.proofs.PlacesLemmas.{same_token, goes_on, index_completable, optional_leads, optional_ends, optional_completable, pair_completable, listed_completable}
+use Rattle.lido_reader.proofs.PhrasesLemmas.{Completable, then_completable, done_completable, sees_completable, Stops, never, past, fails, chosen, leads_self, sees_finds, IsWider, widens}
+use Rattle.lido_reader.proofs.PlacesLemmas.{same_token, goes_on, optional_leads, optional_ends, pair_completable, listed_completable}
 use Rattle.lido_reader.proofs.ExpressionsLemmas.{option_wider, follows_wider}
 
 -- ---- what the alternatives begin with

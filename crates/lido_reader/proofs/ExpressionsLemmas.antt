@@ -1,9 +1,8 @@
 -- How the readers of expressions follow their parts.
 use Rattle.std.specs.Prelude.{◌≡◌, ℕ, ℤ, pos, zero, suc, ◌+◌, ◌-◌, ◌<◌, ◌≤◌, Bool, true, false, ◌||◌, IsTrue, nat_le, ◌⊎◌, List, [], ◌∷◌, ◌++◌, refl, Option, Some, None, slice_get, codes}
-use Rattle.std.proofs.Common.{sym, ◌∙◌, ap, subst, inl, inr, arith, leb-true, le-leb, append-nil}
+use Rattle.std.proofs.Common.{sym, ◌∙◌, ap, subst, inl, inr, arith, leb-true, le-leb}
 use Rattle.lido_base.specs.Reading.{SameHead, GoesOn, Finds, Refuses, Leads, nothing}
 use Rattle.lido_base.specs.Texts.{IsDistinctTexts}
-use Rattle.lido_base.specs.declared.ids.StrId.{StrId}
 use Rattle.lido_base.proofs.ReadingLemmas.{empty_finds, refuses_here, leads_on, led_finds, led_refuses}
 use Rattle.lido_base.proofs.TextsLemmas.{same_place}
 use Rattle.lido_lexer.specs.Seen.{Sees, token, Signs}
@@ -19,8 +18,8 @@ use Rattle.lido_syntax.specs.declared.spec.Place.{Place}
 use Rattle.lido_syntax.specs.declared.spec.Place.TheVariants as place
 use Rattle.lido_syntax.specs.declared.spec.Expr.{Expr}
 use Rattle.lido_syntax.specs.declared.spec.Expr.TheVariants as expr
-use Rattle.lido_reader.specs.Phrases.{Done, Then, IsName, word, is_comma, is_comma_kind, RefusesAt}
-use Rattle.lido_reader.specs.Places.{Optional, absent, present, IsIndex, IsRead, IsReadOf, IsPlace, named, by_word, IsContext, context, in_reads, in_targets, IsIncluding, IsIncludingOf, AreConstituents, AreConstituentsOf, is_bracket, is_bracket_kind, is_option, is_option_kind}
+use Rattle.lido_reader.specs.Phrases.{Done, Then, IsName, word, is_comma, RefusesAt}
+use Rattle.lido_reader.specs.Places.{absent, present, IsIndex, IsRead, IsReadOf, IsPlace, named, by_word, IsContext, context, in_reads, IsIncluding, IsIncludingOf, AreConstituents, AreConstituentsOf, is_bracket, is_bracket_kind, is_option, is_option_kind}
 use Rattle.lido_reader.specs.Counting.{spent, numbered}
 use Rattle.lido_reader.specs.Expressions as grammar
 use Rattle.lido_reader.specs.Expressions.{prefix_of, infix_of, constant_of, start_of, follows_primary, is_at_least, continues, unary_level, IsCall, IsExpr, AreOperands, IsPrimary, AreArguments, AreSome, AreFurther}
@@ -31,7 +30,7 @@ use Rattle.lido_reader.specs.declared.counts.Counts.{Counts}
 use Rattle.lido_reader.specs.declared.fault.ReadSpecFault.{ReadSpecFault}
 use Rattle.lido_reader.specs.declared.operators.Start.{Start}
 use Rattle.lido_reader.specs.declared.operators.Start.TheVariants as start
-use Rattle.lido_reader.proofs.PhrasesLemmas.{Completable, then_completable, done_completable, sees_completable, name_completable, Stops, never, past, chosen, leads_self, sees_finds, IsWider, widens, ends, fails}
+use Rattle.lido_reader.proofs.PhrasesLemmas.{Completable, Stops, never, past, chosen, sees_finds, IsWider, widens, ends, fails}
 use Rattle.lido_reader.proofs.PlacesLemmas.{same_token, goes_on}
 
 -- ---- what continues

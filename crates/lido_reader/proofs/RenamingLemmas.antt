@@ -1,8 +1,8 @@
 -- Whether tokens are a specification does not depend on the ids of their texts.
-use Rattle.std.proofs.Common.{◌≡◌, ℕ, ℤ, ◌+◌, ◌<◌, zero, suc, Bool, true, false, List, [], ◌∷◌, ◌++◌, map, Option, Some, None, slice_get, codes, refl, sym, ap, subst, ◌∙◌, arith}
+use Rattle.std.proofs.Common.{◌≡◌, ℕ, ℤ, zero, suc, true, false, List, [], ◌∷◌, ◌++◌, map, Option, Some, None, slice_get, codes, refl, ap, ◌∙◌, arith}
 use Rattle.std.proofs.lemmas.Option.{none-some}
 use Rattle.lido_base.specs.declared.ids.StrId.{StrId}
-use Rattle.lido_lexer.specs.Seen.{Sees, token, Signs, Keys}
+use Rattle.lido_lexer.specs.Seen.{token, Signs, Keys}
 use Rattle.lido_lexer.specs.declared.keyword.Keyword.{Keyword}
 use Rattle.lido_lexer.specs.declared.keyword.Keyword.TheVariants as key
 use Rattle.lido_lexer.specs.declared.sign.Sign.{Sign}
@@ -16,9 +16,9 @@ use Rattle.lido_syntax.specs.declared.spec.Expr.TheVariants as expr
 use Rattle.lido_syntax.specs.declared.spec.Place.{Place}
 use Rattle.lido_reader.specs.declared.counts.Counts.{Counts}
 use Rattle.lido_reader.specs.Phrases.{Done, Then, AreMore, end, comma, AreSeparated, IsName, word, IsType, type_word}
-use Rattle.lido_reader.specs.Places.{Optional, absent, present, AreListed, single, several, IsInt, int, IsIndex, IsContext, context, IsPlace, named, by_word, IsRead, IsPair, IsIncluding, IsShield, IsWith, AreConstituents}
+use Rattle.lido_reader.specs.Places.{Optional, absent, present, AreListed, single, several, IsInt, int, IsIndex, context, IsPlace, named, by_word, IsRead, IsPair, IsIncluding, IsShield, IsWith, AreConstituents}
 use Rattle.lido_reader.specs.Renaming.{renamed_kind, renamed}
-use Rattle.lido_reader.specs.Counting.{spent, spent_of, numbered}
+use Rattle.lido_reader.specs.Counting.{spent_of, numbered}
 use Rattle.lido_reader.specs.Expressions.{prefix_of, infix_of, constant_of, unary_level, IsCall, IsExpr, operands, prefix, primary, AreOperands, no_operator, operator, IsPrimary, constant, ptg_null, parenthesized, read, including, constituents, terminal, call, choice, order, AreArguments, none, some, AreSome, first, AreFurther, last, further}
 
 -- one less to spend where the budgets are the same

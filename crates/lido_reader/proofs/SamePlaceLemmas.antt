@@ -1,5 +1,5 @@
 -- The place of the first fault does not depend on the ids.
-use Rattle.std.proofs.Common.{◌≡◌, ℕ, ◌+◌, ◌<◌, List, ◌++◌, length, map, take, Some, slice_get, sym, ap, subst, ◌∙◌, arith}
+use Rattle.std.proofs.Common.{◌≡◌, ℕ, ◌+◌, List, ◌++◌, length, map, take, sym, ap, subst, ◌∙◌, arith}
 use Rattle.std.proofs.lemmas.List.{map-append, take-map, length-map}
 use Rattle.lido_base.specs.Reading.{Begins, IsFaultPlace}
 use Rattle.lido_base.specs.declared.ids.StrId.{StrId}

@@ -9,7 +9,6 @@ use Rattle.lido_lexer.specs.declared.sign.Sign.TheVariants as sign
 use Rattle.lido_lexer.specs.declared.token.Token.{Token}
 use Rattle.lido_syntax.specs.declared.spec.Name.{Name}
 use Rattle.lido_syntax.specs.declared.spec.Comp.{Comp}
-use Rattle.lido_syntax.specs.declared.spec.Cons.{Cons}
 use Rattle.lido_syntax.specs.declared.spec.Expr.{Expr}
 use Rattle.lido_syntax.specs.declared.spec.Expr.TheVariants as expr
 use Rattle.lido_syntax.specs.declared.spec.Target.{Target}
@@ -17,11 +16,11 @@ use Rattle.lido_syntax.specs.declared.spec.Element.{Element}
 use Rattle.lido_syntax.specs.declared.spec.Element.TheVariants as element
 use Rattle.lido_syntax.specs.declared.spec.SymbolItem.{SymbolItem}
 use Rattle.lido_syntax.specs.declared.spec.Spec.{Spec}
-use Rattle.lido_reader.specs.Phrases.{Done, Then, IsName, type_word}
+use Rattle.lido_reader.specs.Phrases.{IsName, type_word}
 use Rattle.lido_reader.specs.Places.{in_targets}
 use Rattle.lido_reader.specs.Counting.{most_operators}
 use Rattle.lido_reader.specs.Computations.{IsDependency, read, including, constituents, AreMoreDependencies, last, further, AreSomeDependencies, AreDependencies, single, several, AreAfter, IsTarget, attribute, chain_start, IsValue, IsComputation, assignment, output}
-use Rattle.lido_reader.specs.Items.{Repeats, end, next, IsTerminalType, terminal_type, AreNames, IsSide, unsaid, synt, inh, IsDecl, IsFurtherDecl, AreDecls, IsAttr, IsTerm, IsChain, IsElement, symbol, literal, IsFurtherElement, IsFurtherListed, AreChoices, IsRight, production, listof, called_in, AreInherited, IsSymbolHead, class, plain, IsRuleName, IsDeclaring, IsFurtherComputation, AreComputations, IsBody, IsComputing, IsAbout, declaring, computing, IsSymbol, no_items, IsRule, IsRuleItem, IsSymbolItem, IsAttrItem, IsTermItem, IsChainItem, IsFurtherItem, rule, symbol as symbol_item, attr, term, chain, IsSpec}
+use Rattle.lido_reader.specs.Items.{Repeats, end, next, IsTerminalType, terminal_type, AreNames, IsSide, unsaid, synt, inh, IsDecl, IsFurtherDecl, AreDecls, IsAttr, IsTerm, IsChain, IsElement, symbol, literal, IsFurtherElement, IsFurtherListed, IsRight, production, listof, called_in, AreInherited, IsSymbolHead, class, plain, IsFurtherComputation, IsBody, IsAbout, declaring, computing, IsSymbol, no_items, IsRule, IsFurtherItem, rule, symbol as symbol_item, attr, term, chain, IsSpec}
 use Rattle.lido_reader.specs.Specification.{IsSpecification}
 use Rattle.lido_reader.specs.Renaming.{renamed_kind, renamed}
 use Rattle.lido_reader.proofs.RenamingLemmas.{Moves, done_moves, then_moves, sign_moves, key_moves, separated_moves, more_moves, optional_moves, name_moves, type_moves, place_moves, read_moves, including_moves, constituents_moves, expr_moved}

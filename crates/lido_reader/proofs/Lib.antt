@@ -11,3 +11,6 @@ pub mod BodiesLemmas
 pub mod SymbolsLemmas
 pub mod ItemsLemmas
 pub mod WholeLemmas
+pub mod RenamingLemmas
+pub mod SameSpecificationLemmas
+pub mod SamePlaceLemmas

@@ -7,3 +7,4 @@ pub mod Computations
 pub mod Items
 pub mod Specification
 pub mod Found
+pub mod Renaming

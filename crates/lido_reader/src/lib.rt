@@ -8,6 +8,7 @@ mod declarations;
 mod expressions;
 mod fault;
 mod items;
+pub mod laws;
 mod names;
 mod operators;
 mod places;

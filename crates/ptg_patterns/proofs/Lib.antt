@@ -6,3 +6,5 @@ pub mod MeaningLemmas
 pub mod OneLemmas
 pub mod IdsLemmas
 pub mod CountsLemmas
+pub mod RenamingLemmas
+pub mod IndependenceLemmas

@@ -33,3 +33,8 @@ module _ (texts : List (List ℕ)) where
   -- What a text says, names and strings being given by their ids among these texts.
   unfoldable pub PatternsOf : List ℕ → Result (List Pattern) PtgFault → Type 0
   PatternsOf bytes result = (tokens : List Token) × (stuck : Option ℕ) × AreTokens bytes tokens stuck × Reads (length bytes) tokens stuck result
+
+-- The fault of an answer, if it is one.
+abbrev pub fault_of : Result (List Pattern) PtgFault → Option PtgFault
+fault_of (Ok patterns) = None
+fault_of (Err fault) = Some fault

@@ -3,5 +3,6 @@
 
 pub mod clashing_contexts;
 pub mod crossed_uses;
+pub mod printed_value;
 #[cfg(test)]
 mod tests;

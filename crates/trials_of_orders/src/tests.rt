@@ -1,5 +1,5 @@
 //! The analysis of orders from end to end, on tables of grammars.
-use crate::{clashing_contexts, crossed_uses};
+use crate::{clashing_contexts, crossed_uses, printed_value};
 use flat_grammar::{Cycle, Deps, Flat, Label, Parts, Plan, PlanItem, VisitClass};
 use induced_deps::induce;
 use lido_base::{AttrId, Memory};
@@ -7,7 +7,7 @@ use partitions::{PartFault, partition};
 use sequence_checker::check;
 use std::alloc::{AllocError, Global};
 use std::test::Fail;
-use trials_of_plans::{bare_leaf, late_inherited, two_visits};
+use trials_of_plans::{bare_leaf, two_visits};
 use visit_sequences::sequences;
 
 /// A grammar of the tables.
@@ -16,7 +16,7 @@ enum Grammar {
     BareLeaf,
     ClashingContexts,
     CrossedUses,
-    LateInherited,
+    PrintedValue,
     TwoVisits,
 }
 
@@ -27,7 +27,7 @@ enum Grammar {
 /// visit 2 of the child at occurrence 1, `l02` ends visit 2.
 const ORDERED: [(Grammar, &[u8], &[u8], &[u8]); 3] = [
     (
-        Grammar::LateInherited,
+        Grammar::PrintedValue,
         b"20;0;0;",
         b"(s01);(i0);(s0);",
         b"e10 v21 e00 e01 v11 l01 ;l01 ;e00 l01 ;",
@@ -60,7 +60,7 @@ fn flat_of(alloc: Global, which: Grammar) -> Result<Flat, Memory> {
         Grammar::BareLeaf => bare_leaf::grammar(alloc),
         Grammar::ClashingContexts => clashing_contexts::grammar(alloc),
         Grammar::CrossedUses => crossed_uses::grammar(alloc),
-        Grammar::LateInherited => late_inherited::grammar(alloc),
+        Grammar::PrintedValue => printed_value::grammar(alloc),
         Grammar::TwoVisits => two_visits::grammar(alloc),
     }
 }

@@ -11,7 +11,7 @@ use lido_base::{Kind, List, Memory, SymId, Value, ValueType};
 use std::alloc::Global;
 
 /// S with v and $out, A with i, B with v.
-fn symbols(alloc: Global) -> Result<List<FlatSymbol>, Memory>
+pub fn symbols(alloc: Global) -> Result<List<FlatSymbol>, Memory>
     ensures { IfOk result (λ list. list ≡ three_symbols) }
 {
     let v = attribute(20, Kind::Synthesized, ValueType::Int);
@@ -35,14 +35,14 @@ fn rule_of_s(alloc: Global) -> Result<FlatRule, Memory>
 }
 
 /// The rule rA, which computes nothing.
-fn rule_of_a(alloc: Global) -> FlatRule
+pub fn rule_of_a(alloc: Global) -> FlatRule
     ensures { result ≡ A_rule }
 {
     rule(11, 1, List::new(alloc), List::new(alloc))
 }
 
 /// The rule rB: B.v is 2.
-fn rule_of_b(alloc: Global) -> Result<FlatRule, Memory>
+pub fn rule_of_b(alloc: Global) -> Result<FlatRule, Memory>
     ensures { IfOk result (λ r. r ≡ B_rule) }
 {
     let v = computation(alloc, occurrence(0, 0), FlatExpr::Value(Value::Int(2)));
@@ -62,7 +62,7 @@ fn rules(alloc: Global) -> Result<List<FlatRule>, Memory>
 }
 
 /// The shapes of the three rules.
-fn shapes(alloc: Global) -> Result<List<Shape>, Memory>
+pub fn shapes(alloc: Global) -> Result<List<Shape>, Memory>
     ensures { IfOk result (λ list. list ≡ three_shapes) }
 {
     let s = plain_shape(0, two(alloc, SymId(1), SymId(2))?);

@@ -17,6 +17,8 @@ mod rule_names;
 mod rules;
 mod specification;
 mod symbols;
+#[cfg(test)]
+mod tests;
 
 pub use fault::ReadSpecFault;
 pub use specification::read_spec;

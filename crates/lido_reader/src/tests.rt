@@ -1,0 +1,292 @@
+//! Tests of what no contract says: that memory is found, that the grammar means the language, and how long it takes.
+use crate::{ReadSpecFault, read_spec};
+use lido_base::{Kind, StrId, Strings, ValueType};
+use lido_lexer::lex;
+use lido_syntax::{Comp, Decl, Element, Name, RuleItem, Spec, SymbolItem, Typed1};
+use std::alloc::{AllocError, Global};
+use std::test::Fail;
+use std::time::Instant;
+
+/// Specifications, and their trees' main facts; or the place of the fault behind an exclamation mark. A rule shows its place, its
+/// name, its left side, `=` or `~` for a LISTOF, and its elements; a symbol its place, `C` for a class, its names, behind `<` its
+/// classes, behind `:` its declarations. A declaration shows a letter of its type, and `S`, `I` or `-`. Computations show their
+/// numbers.
+const CASES: [(&[u8], &[u8]); 72] = [
+    (b"", b""),
+    (b"RULE r: X ::= A 'b' C END;", b"R0 r X=A 'b' C ; "),
+    (
+        b"RULE : X ::= END; RULE : Y ::= X END;",
+        b"R0 rule_1 X=; R18 rule_2 Y=X ; ",
+    ),
+    (
+        b"RULE a: X ::= END; RULE: Y LISTOF X | Z | X END;",
+        b"R0 a X=; R19 rule_2 Y~X Z X ; ",
+    ),
+    (b"RULE r: X ::= A COMPUTE END;", b"R0 r X=A ; "),
+    (b"ATTR a, b: int SYNT, c: string;", b"Aa:iS Ab:iS Ac:s- "),
+    (
+        b"ATTR x: PTGNode INH, y: VOID, z: bool SYNT;",
+        b"Ax:tI Ay:v- Az:bS ",
+    ),
+    (b"TERM N: int; TERM M, K: string;", b"TN:i TM:s TK:s "),
+    (b"CHAIN c, d: int; CHAIN e: bool;", b"Hc:i Hd:i He:b "),
+    (b"SYMBOL X: a: int SYNT, b: string;", b"S0 X <:a:iS b:s- ; "),
+    (b"SYMBOL X, Y: a: int;", b"S0 X Y <:a:i- ; "),
+    (b"SYMBOL X END;", b"S0 X <:; "),
+    (b"SYMBOL X INHERITS C, D END;", b"S0 X <C D :; "),
+    (b"CLASS SYMBOL C END;", b"S0C C <:; "),
+    (b"CLASS SYMBOL C: a: int;", b"S0C C <:a:i- ; "),
+    (b"SYMBOL X INHERITS C COMPUTE END;", b"S0 X <C :; "),
+    (b"TERM N: bool;", b"!8"),
+    (b"TERM N: VOID;", b"!8"),
+    (b"TERM N: PTGNode;", b"!8"),
+    (b"TERM N: int SYNT;", b"!12"),
+    (b"RULE r X", b"!7"),
+    (b"SYMBOL A, B INHERITS C END;", b"!12"),
+    (b"CLASS RULE r: X ::= END;", b"!6"),
+    (b"RULE", b"!4"),
+    (b"RULE r", b"!6"),
+    (b"RULE r:", b"!7"),
+    (b"RULE r: X", b"!9"),
+    (b"RULE r: X ::=", b"!13"),
+    (b"RULE r: X ::= A", b"!15"),
+    (b"RULE r: X ::= A END", b"!19"),
+    (b"RULE r: X ::= A END ATTR a: int;", b"!20"),
+    (b"RULE r: X LISTOF", b"!16"),
+    (b"RULE r: X LISTOF A |", b"!20"),
+    (b"RULE r: X LISTOF END;", b"!17"),
+    (b"RULE r: X LISTOF A 'x' END;", b"!19"),
+    (b"RULE r: X ::= A | B END;", b"!16"),
+    (b"RULE RULE: X ::= END;", b"!5"),
+    (b"RULE r: END;", b"!8"),
+    (b"RULE r: X ::= COMPUTE", b"!21"),
+    (b"ATTR ;", b"!5"),
+    (b"ATTR a int;", b"!7"),
+    (b"ATTR a, : int;", b"!8"),
+    (b"ATTR a:", b"!7"),
+    (b"ATTR a: int, ;", b"!13"),
+    (b"ATTR a: int", b"!11"),
+    (b"ATTR a: int SYNT", b"!16"),
+    (b"ATTR a: int SYNT INH;", b"!17"),
+    (b"SYMBOL", b"!6"),
+    (b"SYMBOL X", b"!8"),
+    (b"SYMBOL X,", b"!9"),
+    (b"SYMBOL X:", b"!9"),
+    (b"SYMBOL X ;", b"!9"),
+    (b"SYMBOL X INHERITS", b"!17"),
+    (b"SYMBOL X INHERITS C", b"!19"),
+    (b"SYMBOL X INHERITS C: a: int;", b"!19"),
+    (b"SYMBOL X, Y END;", b"!12"),
+    (b"SYMBOL X: a: int", b"!16"),
+    (b"CLASS", b"!5"),
+    (b"CLASS SYMBOL", b"!12"),
+    (b"CHAIN c", b"!7"),
+    (b"CHAIN c: int", b"!12"),
+    (b"END;", b"!0"),
+    (b"x", b"!0"),
+    (b"TERM N: int; ;", b"!13"),
+    (
+        b"RULE r: X ::= A COMPUTE X.a = 1; X.b = CONSTITUENTS A.a; X.c = 2; END; RULE: Y ::= X COMPUTE Y.a = X.a; END;",
+        b"R0 r X=A #0 #1 #3 ; R71 rule_2 Y=X #4 ; ",
+    ),
+    (
+        b"RULE r: X ::= COMPUTE PTGOut(1); END; SYMBOL Y COMPUTE SYNT.a = 1; END;",
+        b"R0 r X=#0 ; S38 Y <:#1 ; ",
+    ),
+    (
+        b"SYMBOL X COMPUTE SYNT.a = 1; INH.b = 2 + 3; END;",
+        b"S0 X <:#0 #1 ; ",
+    ),
+    (b"SYMBOL X COMPUTE ;", b"!17"),
+    (b"SYMBOL X COMPUTE TAIL.a = 1; END;", b"!17"),
+    (b"SYMBOL X COMPUTE SYNT.a = 1 END;", b"!28"),
+    (b"SYMBOL X COMPUTE SYNT.a = 1;", b"!28"),
+    (b"SYMBOL X COMPUTE SYNT.a = (1; END;", b"!28"),
+];
+
+/// What is written of a specification.
+#[derive(Drop)]
+struct Shown<'a> {
+    alloc: Global,
+    strings: &'a Strings,
+    out: Vec<u8>,
+}
+
+fn put(shown: &mut Shown, bytes: &[u8]) -> Result<(), AllocError> {
+    shown.out.extend_from_slice(bytes)?;
+    Ok(())
+}
+
+fn put_number(shown: &mut Shown, number: u32) -> Result<(), AllocError> {
+    let text = number.to_string(shown.alloc)?;
+    shown.out.extend_from_slice(text.as_bytes())?;
+    Ok(())
+}
+
+fn put_text(shown: &mut Shown, id: StrId) -> Result<(), AllocError> {
+    if (id.0 as usize) < shown.strings.len() {
+        shown.out.extend_from_slice(shown.strings.bytes(id))?;
+    }
+    Ok(())
+}
+
+fn type_letter(ty: ValueType) -> &'static [u8] {
+    match ty {
+        ValueType::Int => b"i",
+        ValueType::Str => b"s",
+        ValueType::Bool => b"b",
+        ValueType::Text => b"t",
+        ValueType::Void => b"v",
+    }
+}
+
+fn put_decl(shown: &mut Shown, decl: Decl) -> Result<(), AllocError> {
+    put_text(shown, decl.attr.id)?;
+    put(shown, b":")?;
+    put(shown, type_letter(decl.ty))?;
+    let side: &[u8] = match decl.kind {
+        Some(Kind::Synthesized) => b"S ",
+        Some(Kind::Inherited) => b"I ",
+        None => b"- ",
+    };
+    put(shown, side)
+}
+
+fn put_typed(shown: &mut Shown, typed: Typed1) -> Result<(), AllocError> {
+    put_text(shown, typed.name.id)?;
+    put(shown, b":")?;
+    put(shown, type_letter(typed.ty))?;
+    put(shown, b" ")
+}
+
+fn put_names(shown: &mut Shown, names: &[Name]) -> Result<(), AllocError> {
+    for name in names {
+        put_text(shown, name.id)?;
+        put(shown, b" ")?;
+    }
+    Ok(())
+}
+
+fn put_body(shown: &mut Shown, body: &[Comp]) -> Result<(), AllocError> {
+    for comp in body {
+        put(shown, b"#")?;
+        put_number(shown, comp.number)?;
+        put(shown, b" ")?;
+    }
+    put(shown, b"; ")
+}
+
+fn put_rule(shown: &mut Shown, rule: &RuleItem) -> Result<(), AllocError> {
+    put(shown, b"R")?;
+    put_number(shown, rule.at)?;
+    put(shown, b" ")?;
+    put_text(shown, rule.name)?;
+    put(shown, b" ")?;
+    put_text(shown, rule.left.id)?;
+    put(shown, if rule.list { b"~" } else { b"=" })?;
+    for element in rule.right.as_slice() {
+        match *element {
+            Element::Symbol(name) => put_text(shown, name.id)?,
+            Element::Literal(id) => {
+                put(shown, b"'")?;
+                put_text(shown, id)?;
+                put(shown, b"'")?;
+            }
+        }
+        put(shown, b" ")?;
+    }
+    put_body(shown, rule.body.as_slice())
+}
+
+fn put_symbol(shown: &mut Shown, symbol: &SymbolItem) -> Result<(), AllocError> {
+    put(shown, b"S")?;
+    put_number(shown, symbol.at)?;
+    put(shown, if symbol.class { b"C " } else { b" " })?;
+    put_names(shown, symbol.names.as_slice())?;
+    put(shown, b"<")?;
+    put_names(shown, symbol.inherits.as_slice())?;
+    put(shown, b":")?;
+    for decl in symbol.decls.as_slice() {
+        put_decl(shown, *decl)?;
+    }
+    put_body(shown, symbol.body.as_slice())
+}
+
+fn put_spec(shown: &mut Shown, spec: &Spec) -> Result<(), AllocError> {
+    for rule in spec.rules.as_slice() {
+        put_rule(shown, rule)?;
+    }
+    for symbol in spec.symbols.as_slice() {
+        put_symbol(shown, symbol)?;
+    }
+    for decl in spec.attrs.as_slice() {
+        put(shown, b"A")?;
+        put_decl(shown, *decl)?;
+    }
+    for typed in spec.terms.as_slice() {
+        put(shown, b"T")?;
+        put_typed(shown, *typed)?;
+    }
+    for typed in spec.chains.as_slice() {
+        put(shown, b"H")?;
+        put_typed(shown, *typed)?;
+    }
+    Ok(())
+}
+
+fn answer(alloc: Global, text: &[u8]) -> Result<Vec<u8>, Fail> {
+    if text.len() > 1_000 {
+        return Ok(Vec::new(alloc));
+    }
+    let mut strings = Strings::new(alloc)?;
+    let tokens = lex(alloc, text, &mut strings)?;
+    let result = read_spec(alloc, tokens.as_slice(), text.len() as u32, &mut strings);
+    let mut shown = Shown {
+        alloc,
+        strings: &strings,
+        out: Vec::new(alloc),
+    };
+    match result {
+        Ok(spec) => put_spec(&mut shown, &spec)?,
+        Err(ReadSpecFault::Syntax { at }) => {
+            put(&mut shown, b"!")?;
+            put_number(&mut shown, at)?;
+        }
+        Err(ReadSpecFault::Memory) => put(&mut shown, b"?")?,
+    }
+    Ok(shown.out)
+}
+
+#[test]
+fn specifications_and_their_trees(rt: HostRuntime) -> Result<(), Fail> {
+    for (text, want) in CASES {
+        let found = answer(rt.alloc(), text)?;
+        assert_eq!(rt; found.as_slice(), want, "at {text:?}");
+    }
+    Ok(())
+}
+
+/// The number of rules of a specification.
+fn rule_count(alloc: Global, text: &[u8]) -> Result<usize, Fail> {
+    if text.len() > 8_388_608 {
+        return Ok(0);
+    }
+    let mut strings = Strings::new(alloc)?;
+    let tokens = lex(alloc, text, &mut strings)?;
+    let spec = read_spec(alloc, tokens.as_slice(), text.len() as u32, &mut strings)?;
+    Ok(spec.rules.len())
+}
+
+#[test]
+fn rules_of_eight_mebibytes(rt: HostRuntime) -> Result<(), Fail> {
+    let alloc = rt.alloc();
+    let line = b"RULE: X ::= A 'b' END;\n";
+    let mut text: Vec<u8> = Vec::new(alloc);
+    for _ in 0..364_000u32 {
+        text.extend_from_slice(line)?;
+    }
+    let start = Instant::now(&rt)?;
+    assert_eq!(rt; rule_count(alloc, text.as_slice())?, 364_000);
+    assert!(rt; start.elapsed(&rt)?.as_secs() < 20);
+    Ok(())
+}

@@ -7,13 +7,13 @@ use Rattle.std.proofs.lemmas.List.{get_or-set_same, get_or-set_other, length-set
 use Rattle.std.proofs.lemmas.List.Elements.{Contains-append_left, Contains-push}
 use Rattle.flat_grammar.specs.declared.flat.Occ.{Occ}
 use Rattle.flat_grammar.specs.Cycles.{IsAtMost}
-use Rattle.flat_grammar.proofs.Lists.{held, slice_get-contains}
+use Rattle.flat_grammar.proofs.Lists.{held, contains-nil, slice_get-contains}
 use Rattle.flat_grammar.proofs.BitsLemmas.{empty-set}
 use Rattle.visit_sequences.specs.declared.goals.Goal.{Goal}
 use Rattle.visit_sequences.specs.declared.progress.Progress.{Progress}
 use Rattle.visit_sequences.specs.declared.queue.Waiting.{Waiting}
 use Rattle.visit_sequences.specs.declared.queue.Queue.{Queue}
-use Rattle.visit_sequences.specs.Steps.{HasBit, IsOpen, IsFree, Waits, Keeps, AreFree, StandsIn, Sorts, Changes, IsLeft}
+use Rattle.visit_sequences.specs.Steps.{HasBit, IsOpen, IsFree, Waits, Keeps, AreFree, StandsIn, Sorts, Changes, IsLeft, AreSeen, HasSeen}
 use Rattle.visit_sequences.proofs.BitsLemmas.{taken-cases}
 use Rattle.visit_sequences.proofs.ClosedWalks.{all-from_each}
 
@@ -130,10 +130,11 @@ looked-next p goals old new woken n d inside keeps before here i g at m = elim (
 ]
 
 -- all were looked at
-pub all-stand : (p : Progress) (goals : List Goal) (q : Queue) (woken : List ℕ) (n : ℕ) → length woken ≤ n → AreFree p goals q → ((i : ℕ) (g : Goal) → slice_get goals i ≡ Some g → StandsIn p q i g ⊎ Contains woken i)
+pub all-stand : (p : Progress) (goals : List Goal) (q : Queue) (woken : List ℕ) (n : ℕ) → length woken ≤ n → AreFree p goals q → HasSeen p goals q → ((i : ℕ) (g : Goal) → slice_get goals i ≡ Some g → StandsIn p q i g ⊎ Contains woken i)
     → ((i : ℕ) (g : Goal) → slice_get goals i ≡ Some g → Contains (take n woken) i → StandsIn p q i g) → Sorts p goals q
-all-stand p goals q woken n over free others looked = record {
+all-stand p goals q woken n over free seen others looked = record {
   free = free;
+  seen = seen;
   stands = λ i g at. elim (others i g at) [ inl s ↦ s | inr m ↦ looked i g at (subst (λ l. Contains l i) (sym (take_all n woken over)) m) ];
 }
 
@@ -147,3 +148,38 @@ keeps-more old new o same each step = record {
   free = λ u b. (step u).1 (inl b);
   waits = λ k i m. subst (λ v. WaitsIn v.items k i) (sym same) m;
 }
+
+pub keeps-same : (old mid new : Queue) → (mid.free ≡ old.free) × (mid.waiting ≡ old.waiting) → Keeps mid new → Keeps old new
+keeps-same old mid new (free, waiting) keeps = record {
+  each = keeps.each ∙ ap (λ f. length f.items) free;
+  free = λ u b. keeps.free u (subst (λ f. HasBit f.items u) (sym free) b);
+  waits = λ k i m. keeps.waits k i (subst (λ v. WaitsIn v.items k i) (sym waiting) m);
+}
+
+-- what was counted is still at hand
+pub woken-seen : (p q : Progress) (goals : List Goal) (old new : Queue) (k : ℕ) → Sorts p goals old → Changes p q k → new.seen ≡ old.seen → HasSeen q goals new
+woken-seen p q goals old new k sorts changes same i g at u m = changes.stays u (sorts.seen i g at u (subst (λ s. Contains (take (slice_index s.items i) g.direct.items) u) same m))
+
+pub none-seen : (p : Progress) (goals : List Goal) (q : Queue) (n : ℕ) → q.seen.items ≡ replicate n 0 → HasSeen p goals q
+none-seen p goals q n e i g at u m = absurd (contains-nil u (subst (λ k. Contains (take k g.direct.items) u) (ap (λ (l : List ℕ). slice_index l i) e ∙ none) m))
+  where
+    none : slice_index (replicate n 0) i ≡ 0
+    none = elim (cases_lt i n) [ inl l ↦ get_or-replicate n i 0 0 l | inr g ↦ get_or_past (replicate n 0) i 0 (let e = length-replicate {A = ℕ} n 0 in omega (arith, e, g)) ]
+
+-- one goal was looked at
+pub seen-next : (p : Progress) (goals : List Goal) (old new : Queue) (n : ℕ) (x : Goal) → slice_get goals n ≡ Some x → HasSeen p goals old → ((j : ℕ) → (n ≡ j → ⊥) → slice_index new.seen.items j ≡ slice_index old.seen.items j)
+    → AreSeen p x (slice_index new.seen.items n) → HasSeen p goals new
+seen-next p goals old new n x here before others seen i g at u m = elim (cases_eq n i) [
+  | inl e ↦ (let same : x ≡ g = held (sym here ∙ (ap (λ k. slice_get goals k) e ∙ at)) in
+      seen u (subst (λ (y : Goal). Contains (take (slice_index new.seen.items n) y.direct.items) u) (sym same) (subst (λ k. Contains (take (slice_index new.seen.items k) g.direct.items) u) (sym e) m)))
+  | inr d ↦ before i g at u (subst (λ k. Contains (take k g.direct.items) u) (others i d) m)
+]
+
+pub noted-other : (old : List ℕ) (k j v : ℕ) → (k ≡ j → ⊥) → slice_index (slice_set old k v) j ≡ slice_index old j
+noted-other old k j v n = get_or-set_other old k j v 0 (λ e. n (sym e))
+
+pub noted-here : (p : Progress) (g : Goal) (old : List ℕ) (k v : ℕ) → AreSeen p g (slice_index old k) → AreSeen p g v → AreSeen p g (slice_index (slice_set old k v) k)
+noted-here p g old k v before now = elim (cases_lt k (length old)) [
+  | inl l ↦ subst (λ n. AreSeen p g n) (sym (get_or-set_same old k v 0 l)) now
+  | inr h ↦ subst (λ n. AreSeen p g n) (get_or_past old k 0 h ∙ sym (get_or_past (slice_set old k v) k 0 (let l = length-set old k v in omega (arith, h, l)))) before
+]

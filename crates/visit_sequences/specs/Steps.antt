@@ -1,5 +1,5 @@
 -- What the construction keeps of a rule: its goals with what they wait for, and how far the items have come.
-use Rattle.std.specs.Prelude.{◌≡◌, ◌↔◌, ◌⊎◌, ℕ, suc, ◌<◌, ◌≤◌, List, [], map, length, Some, slice_get, slice_index, option_and_then, unwrap_or, All, Contains, IsBitSet}
+use Rattle.std.specs.Prelude.{◌≡◌, ◌↔◌, ◌⊎◌, ℕ, suc, ◌<◌, ◌≤◌, List, [], map, length, Some, slice_get, slice_index, option_and_then, unwrap_or, All, Contains, take, IsBitSet}
 use Rattle.lido_base.specs.declared.ids.SymId.{SymId}
 use Rattle.lido_base.specs.declared.ids.AttrId.{AttrId}
 use Rattle.flat_grammar.specs.declared.flat.Occ.{Occ}
@@ -155,9 +155,18 @@ AreFree p goals q = (o : Occ) → HasBit q.free.items o → (g : Goal) × Contai
 abbrev pub StandsIn : Progress → Queue → ℕ → Goal → Type 0
 StandsIn p q i g = HasBit q.free.items g.goal ⊎ ((k : ℕ) × Waits q k i × IsBlockedAt p g k)
 
+-- so many of the goal's dependencies are at hand, from the first on
+abbrev pub AreSeen : Progress → Goal → ℕ → Type 0
+AreSeen p g n = (u : Occ) → Contains (take n g.direct.items) u → HasBit p.at_hand.items u
+
+-- the dependencies that the queue counts are at hand
+abbrev pub HasSeen : Progress → List Goal → Queue → Type 0
+HasSeen p goals q = (i : ℕ) (g : Goal) → slice_get goals i ≡ Some g → AreSeen p g (slice_index q.seen.items i)
+
 -- the queue says of each goal how it stands
 pub record Sorts (p : Progress) (goals : List Goal) (q : Queue) : Type 0 where
   pub free : AreFree p goals q
+  pub seen : HasSeen p goals q
   pub stands : (i : ℕ) (g : Goal) → slice_get goals i ≡ Some g → StandsIn p q i g
 
 -- what is at hand stays, and more of it is only at this occurrence

@@ -34,7 +34,7 @@ pub fn empty_sets(alloc: Global, count: usize) -> Result<Vec<u128>, AllocError>
 }
 
 /// So many zeros.
-fn zeros(alloc: Global, count: usize) -> Result<Vec<usize>, AllocError>
+pub fn zeros(alloc: Global, count: usize) -> Result<Vec<usize>, AllocError>
     ensures { IfOk result (λ made. made.items ≡ replicate count 0) }
 {
     vec![in alloc; 0usize; count]

@@ -1,14 +1,14 @@
 //! The goals of a rule that have all that they wait for, and where the others wait.
-ghost use Rattle.std.specs.Prelude.{◌≡◌, ℕ, ◌<◌, ◌^◌, ◌↔◌, ◌⊎◌, All, Contains, IsTrue, IsBitSet, OnOk, IfOk, MatchOption, Some, length, slice_get};
+ghost use Rattle.std.specs.Prelude.{◌≡◌, ℕ, ◌<◌, ◌^◌, ◌↔◌, ◌⊎◌, All, Contains, IsTrue, IsBitSet, OnOk, IfOk, MatchOption, Some, length, slice_get, slice_index, slice_set, take};
 ghost use Rattle.flat_grammar.specs.declared.flat.Occ.{Occ as Occurrence};
 ghost use Rattle.flat_grammar.specs.Cycles.{IsAtMost};
 ghost use Rattle.visit_sequences.specs.declared.goals.Goal.{Goal as Waiter};
 ghost use Rattle.visit_sequences.specs.declared.progress.Progress.{Progress as Before};
-ghost use Rattle.visit_sequences.specs.Steps.{AreFree, Changes, HasBit, IsBlockedAt, IsFree, IsOpen, Keeps, Sorts, StandsIn, Waits};
+ghost use Rattle.visit_sequences.specs.Steps.{AreFree, AreSeen, Changes, HasBit, HasSeen, IsBlockedAt, IsFree, IsOpen, Keeps, Sorts, StandsIn, Waits};
 
 use crate::bits::with;
 use crate::goals::Goal;
-use crate::progress::{Progress, empty_sets};
+use crate::progress::{Progress, empty_sets, zeros};
 use flat_grammar::Occ;
 use flat_grammar::bits::is_within;
 use lido_base::Memory;
@@ -28,6 +28,8 @@ pub struct Queue {
     pub free: Vec<u128>,
     /// For each occurrence the goals that wait for something there.
     pub waiting: Vec<Waiting>,
+    /// For each goal of the list how many of its computation's dependencies, from the first on, were found at hand.
+    pub seen: Vec<usize>,
 }
 
 /// So many places at which nothing waits.
@@ -46,6 +48,7 @@ impl Queue {
     fn wait(&mut self, occ: u16, goal: usize) -> Result<(), Memory>
         ensures keeps { OnOk result (Keeps self.old self.new) }
         ensures free { OnOk result (self.new.free ≡ self.old.free) }
+        ensures seen { OnOk result (self.new.seen ≡ self.old.seen) }
         ensures waits { OnOk result (Waits self.new occ goal) }
     {
         match self.waiting.get_mut(occ as usize) {
@@ -60,6 +63,7 @@ impl Queue {
     /// The goal has all that it waits for. There is a set for each occurrence, and a symbol has no more than 128 attributes.
     fn set_free(&mut self, goal: Occ) -> Result<(), Memory>
         ensures waiting { OnOk result (self.new.waiting ≡ self.old.waiting) }
+        ensures seen { OnOk result (self.new.seen ≡ self.old.seen) }
         ensures each { OnOk result (length self.new.free.items ≡ length self.old.free.items) }
         ensures free { OnOk result ((o : Occurrence) → HasBit self.new.free.items o ↔ (HasBit self.old.free.items o ⊎ (o ≡ goal))) }
     {
@@ -78,6 +82,7 @@ impl Queue {
     /// The goals that waited at this occurrence. None waits there any more.
     fn woken(&mut self, alloc: Global, occ: u16) -> Vec<usize>
         ensures free { self.new.free ≡ self.old.free }
+        ensures seen { self.new.seen ≡ self.old.seen }
         ensures others { (k i : ℕ) → Waits self.old k i → ¬ (occ ≡ k) → Waits self.new k i }
         ensures here { (i : ℕ) → Waits self.old occ i → Contains result.items i }
     {
@@ -87,17 +92,56 @@ impl Queue {
         }
     }
 
+    /// How many of the goal's dependencies were found at hand.
+    fn seen_of(&self, at: usize) -> usize
+        ensures { result ≡ slice_index self.now.seen.items at }
+    {
+        self.seen.get(at).copied().unwrap_or(0)
+    }
+
+    /// Notes how many of the goal's dependencies were found at hand.
+    fn note(&mut self, at: usize, count: usize)
+        ensures same { (self.new.free ≡ self.old.free) × (self.new.waiting ≡ self.old.waiting) }
+        ensures seen { self.new.seen.items ≡ slice_set self.old.seen.items at count }
+    {
+        if let Some(seen) = self.seen.get_mut(at) {
+            *seen = count;
+        }
+    }
+
+    /// An occurrence at which the goal still waits for something. It goes on behind the dependencies that were found at hand.
+    fn blocked(&mut self, progress: &Progress, goal: &Goal, at: usize) -> Option<u16>
+        requires { AreSeen progress.now goal.now (slice_index self.old.seen.items at) }
+        ensures blocked { MatchOption result (IsFree progress.now goal.now) (IsBlockedAt progress.now goal.now) }
+        ensures same { (self.new.free ≡ self.old.free) × (self.new.waiting ≡ self.old.waiting) }
+        ensures others { (j : ℕ) → ¬ (at ≡ j) → slice_index self.new.seen.items j ≡ slice_index self.old.seen.items j }
+        ensures seen { AreSeen progress.now goal.now (slice_index self.new.seen.items at) }
+    {
+        let direct = goal.direct.as_slice();
+        let count = progress.seen_from(direct, self.seen_of(at));
+        self.note(at, count);
+        if !is_within(goal.same, progress.at_hand_at(goal.goal.occ)) {
+            return Some(goal.goal.occ);
+        }
+        match direct.get(count) {
+            Some(o) => Some(o.occ),
+            None => None,
+        }
+    }
+
     /// Looks how a goal stands.
     fn look(&mut self, progress: &Progress, goals: &[Goal], at: usize) -> Result<(), Memory>
         requires free { AreFree progress.now goals.now self.old }
+        requires seen { HasSeen progress.now goals.now self.old }
         ensures free { OnOk result (AreFree progress.now goals.now self.new) }
+        ensures seen { OnOk result (HasSeen progress.now goals.now self.new) }
         ensures keeps { OnOk result (Keeps self.old self.new) }
         ensures stands { OnOk result ((g : Waiter) → slice_get goals.now at ≡ Some g → StandsIn progress.now self.new at g) }
     {
         let Some(goal) = goals.get(at) else {
             return Ok(());
         };
-        match progress.blocked(goal) {
+        match self.blocked(progress, goal, at) {
             Some(occ) => self.wait(occ, at),
             None => self.set_free(goal.goal),
         }
@@ -112,6 +156,7 @@ impl Queue {
         let mut queue = Queue {
             free: empty_sets(alloc, count)?,
             waiting: empty_places(alloc, count)?,
+            seen: zeros(alloc, goals.len())?,
         };
         for at in 0..goals.len() {
             queue.look(progress, goals, at)?;
@@ -140,26 +185,17 @@ impl Queue {
 }
 
 impl Progress {
-    /// The occurrence of the first that is not at hand.
-    fn first_missing(&self, direct: &[Occ]) -> Option<u16>
-        ensures { MatchOption result ((u : Occurrence) → Contains direct.now u → HasBit self.now.at_hand.items u)
-            (λ k. (u : Occurrence) × Contains direct.now u × (u.occ ≡ k) × ¬ HasBit self.now.at_hand.items u) }
+    /// How many of these are at hand up to the first that is not, where so many are.
+    fn seen_from(&self, direct: &[Occ], count: usize) -> usize
+        requires { (u : Occurrence) → Contains (take count direct.now) u → HasBit self.now.at_hand.items u }
+        ensures seen { (u : Occurrence) → Contains (take result direct.now) u → HasBit self.now.at_hand.items u }
+        ensures stops { (u : Occurrence) → slice_get direct.now result ≡ Some u → ¬ HasBit self.now.at_hand.items u }
     {
-        for o in direct {
-            if !self.is_at_hand(*o) {
-                return Some(o.occ);
+        for k in count..direct.len() {
+            if !self.is_at_hand(direct[k]) {
+                return k;
             }
         }
-        None
-    }
-
-    /// An occurrence at which the goal still waits for something.
-    fn blocked(&self, goal: &Goal) -> Option<u16>
-        ensures { MatchOption result (IsFree self.now goal.now) (IsBlockedAt self.now goal.now) }
-    {
-        if !is_within(goal.same, self.at_hand_at(goal.goal.occ)) {
-            return Some(goal.goal.occ);
-        }
-        self.first_missing(goal.direct.as_slice())
+        direct.len()
     }
 }

@@ -1,5 +1,6 @@
 use Rattle.std.specs.Prelude.{unwrap_or}
-use Rattle.std.proofs.Common.{◌≡◌, ◌<◌, ◌≤◌, ◌∙◌, List, [], Option, ap, sym, subst, length, true≢false, arith}
+use Rattle.std.proofs.Common.{◌≡◌, ◌<◌, ◌≤◌, ◌∙◌, List, [], Option, ap, sym, subst, length, true≢false, arith, rules}
+use Rattle.std.proofs.lemmas.Grind.{common_steps}
 use Rattle.flat_grammar.specs.declared.plan.PlanItem.TheVariants.{Leave}
 use Rattle.flat_grammar.specs.declared.plan.VisitClass.{VisitClass}
 use Rattle.flat_grammar.specs.Construction.{IsConstructed}
@@ -57,3 +58,20 @@ returns-then-is_end c =
     let end : item ≡ Leave (length (row_of visits r 0)) = c.is_end.ensures.0 c.if-is_end.true ∙ ap (λ (l : List VisitClass). Leave (length l)) row in
     subst (IsConstructed flat.symbols flat.rules visits r) (sym (c.from_vec.ensures ∙ (ap (λ v. v.items) c.into_items.ensures ∙ c.in_ok-take.ensures.items)))
     (whole-sequence visits r flat.symbols flat.rules items item left.0 left.1 (ap (λ (o : Option (List VisitClass)). length (unwrap_or o [])) left.1) each end)
+
+pub loop-queue-init : goal.loop-queue-init
+loop-queue-init c =
+    let flat = c.args.flat.now in
+    let visits = c.args.parts.now.visits in
+    let r = c.args.rule.now in
+    let left = row-there flat.symbols flat.rules visits c.requires.visits r.left (rule-is flat.symbols flat.rules flat.shapes flat.root flat.well_formed r c.requires.rule).left_side in
+    let e : segment_after c.in_ok-progress.progress.items.items ≡ 1 = ap segment_after c.in_ok-progress.ensures.none in
+    let l : length (row_of visits r 0) ≡ length left.0 = ap (λ (o : Option (List VisitClass)). length (unwrap_or o [])) left.1 in
+    let h : 0 < length left.0 = left.2.one in
+    record {
+      follows = c.in_ok-progress.ensures.follows;
+      chosen = first_of (search rules, grind (arith, common_steps));
+      within = omega (arith, e, l, h);
+      sorts = subst (λ l. Sorts c.in_ok-progress.progress l c.in_ok-queue.queue) c.deref.ensures.value c.in_ok-queue.ensures.sorts;
+      few = first_of (search rules, grind (arith, common_steps));
+    }

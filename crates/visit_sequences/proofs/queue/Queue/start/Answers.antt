@@ -8,6 +8,7 @@ loop-at-preserved c =
     let done = c.in_ok-look.ensures in
     record {
       free = done.free;
+      seen = done.seen;
       stands = stands-next c.args.progress.now c.args.goals.now c.loop-at.queue c.look.new.self c.loop-at.at done.keeps c.loop-at.invariant.stands done.stands;
       each = done.keeps.each ∙ c.loop-at.invariant.each;
     }
@@ -15,5 +16,6 @@ loop-at-preserved c =
 pub returns-clause-sorts : goal.returns-clause-sorts
 returns-clause-sorts c = record {
   free = c.loop-at.invariant.free;
+  seen = c.loop-at.invariant.seen;
   stands = λ i g at. c.loop-at.invariant.stands i g (let l = slice_get_within c.args.goals.now i g at in let t = c.loop-at-test.false in omega (arith, l, t)) at;
 }

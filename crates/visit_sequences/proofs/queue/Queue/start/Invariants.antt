@@ -1,13 +1,14 @@
 use Rattle.std.specs.Prelude.{slice_get, length}
 use Rattle.std.proofs.Common.{◌<◌, ◌≡◌, ℕ, Some}
 use Rattle.visit_sequences.specs.declared.goals.Goal.{Goal}
-use Rattle.visit_sequences.specs.Steps.{AreFree, StandsIn}
+use Rattle.visit_sequences.specs.Steps.{AreFree, HasSeen, StandsIn}
 use Rattle.visit_sequences.proofs.queue.Queue.start.Given as goal
 
 -- it says of the goals so far how they stand
 abbrev pub invariant-loop-at : goal.invariant-loop-at
 invariant-loop-at l = record {
   free : AreFree l.progress l.goals l.queue;
+  seen : HasSeen l.progress l.goals l.queue;
   stands : (i : ℕ) (g : Goal) → i < l.at → slice_get l.goals i ≡ Some g → StandsIn l.progress l.queue i g;
   each : length l.queue.free.items ≡ length l.progress.evaluated.items;
 }

@@ -2,18 +2,18 @@
 use Rattle.std.specs.Prelude.{All, Contains, slice_get, slice_index, slice_set, replicate, take, IsBitSet, ◌↔◌, MatchOption, OnOk}
 use Rattle.std.proofs.Common.{◌≡◌, ℕ, ◌<◌, ◌≤◌, ◌+◌, ◌⊎◌, inl, inr, List, [], ◌∷◌, ◌++◌, length, get_or, Option, Some, None, Result, Ok, Err, arith, ap, sym, subst, ◌∙◌}
 use Rattle.std.proofs.lemmas.Bool.{cases_lt, cases_eq}
-use Rattle.std.proofs.lemmas.Option.{slice_get_within, slice_get-get_or, get_or_from_slice_get}
+use Rattle.std.proofs.lemmas.Option.{slice_get_cases, slice_get_within, slice_get-get_or, get_or_from_slice_get}
 use Rattle.std.proofs.lemmas.List.{get_or-set_same, get_or-set_other, length-set, get_or-replicate, length-replicate, get_or_past, take_all}
 use Rattle.std.proofs.lemmas.List.Elements.{Contains-append_left, Contains-push}
 use Rattle.flat_grammar.specs.declared.flat.Occ.{Occ}
 use Rattle.flat_grammar.specs.Cycles.{IsAtMost}
-use Rattle.flat_grammar.proofs.Lists.{held, contains-nil, slice_get-contains}
+use Rattle.flat_grammar.proofs.Lists.{held, contains-nil, contains-slice_get, slice_get-contains}
 use Rattle.flat_grammar.proofs.BitsLemmas.{empty-set}
 use Rattle.visit_sequences.specs.declared.goals.Goal.{Goal}
 use Rattle.visit_sequences.specs.declared.progress.Progress.{Progress}
 use Rattle.visit_sequences.specs.declared.queue.Waiting.{Waiting}
 use Rattle.visit_sequences.specs.declared.queue.Queue.{Queue}
-use Rattle.visit_sequences.specs.Steps.{HasBit, IsOpen, IsFree, Waits, Keeps, AreFree, StandsIn, Sorts, Changes, IsLeft, AreSeen, HasSeen}
+use Rattle.visit_sequences.specs.Steps.{HasBit, IsOpen, IsFree, Waits, Keeps, AreFree, StandsIn, Sorts, Changes, IsLeft, AreSeen, HasSeen, HasLeft, AreEvaluated}
 use Rattle.visit_sequences.proofs.BitsLemmas.{taken-cases}
 use Rattle.visit_sequences.proofs.ClosedWalks.{all-from_each}
 
@@ -183,3 +183,14 @@ noted-here p g old k v before now = elim (cases_lt k (length old)) [
   | inl l ↦ subst (λ n. AreSeen p g n) (sym (get_or-set_same old k v 0 l)) now
   | inr h ↦ subst (λ n. AreSeen p g n) (get_or_past old k 0 h ∙ sym (get_or_past (slice_set old k v) k 0 (let l = length-set old k v in omega (arith, h, l)))) before
 ]
+
+-- where a goal stands at the place it is not evaluated, and else all are
+pub has-left : (p : Progress) (goals : List Goal) (n : ℕ) → ((g : Goal) → slice_get goals n ≡ Some g → HasBit p.evaluated.items g.goal → ⊥) → n < length goals → HasLeft goals p
+has-left p goals n stops h = go (slice_get_cases goals n).1
+  where
+    go : ((g : Goal) × (n < length goals) × (slice_get goals n ≡ Some g) × (get_or goals n g ≡ g)) ⊎ ((length goals ≤ n) × (slice_get goals n ≡ None)) → HasLeft goals p
+    go (inl (g, l, at, e)) = (g, contains-slice_get goals n g at, stops g at)
+    go (inr (past, e)) = absurd (omega (arith, h, past))
+
+pub left-has : (p : Progress) (goals : List Goal) (n : ℕ) → AreEvaluated p goals n → HasLeft goals p → n < length goals
+left-has p goals n all (g, m, left) = elim (cases_lt n (length goals)) [ inl l ↦ l | inr past ↦ absurd (left (all g (subst (λ l. Contains l g) (sym (take_all n goals past)) m))) ]

@@ -100,6 +100,10 @@ OwesClass row p = (v : ℕ) × (c : VisitClass) × (p.segment ≡ suc v) × (sli
 abbrev pub HasLeft : List Goal → Progress → Type 0
 HasLeft goals p = (g : Goal) × Contains goals g × ¬ HasBit p.evaluated.items g.goal
 
+-- so many goals are evaluated, from the first on
+abbrev pub AreEvaluated : Progress → List Goal → ℕ → Type 0
+AreEvaluated p goals n = (g : Goal) → Contains (take n goals) g → HasBit p.evaluated.items g.goal
+
 -- from this visit on, counted from 0, one has a synthesized attribute
 abbrev pub IsOfUseFrom : List VisitClass → ℕ → Type 0
 IsOfUseFrom row from = (w : ℕ) × (c : VisitClass) × (from ≤ w) × (slice_get row w ≡ Some c) × ¬ (c.synthesized ≡ [])
@@ -169,8 +173,9 @@ pub record Sorts (p : Progress) (goals : List Goal) (q : Queue) : Type 0 where
   pub seen : HasSeen p goals q
   pub stands : (i : ℕ) (g : Goal) → slice_get goals i ≡ Some g → StandsIn p q i g
 
--- what is at hand stays, and more of it is only at this occurrence
+-- what is evaluated or at hand stays, and more is at hand only at this occurrence
 pub record Changes (old new : Progress) (k : ℕ) : Type 0 where
+  pub evaluated : (u : Occ) → HasBit old.evaluated.items u → HasBit new.evaluated.items u
   pub stays : (u : Occ) → HasBit old.at_hand.items u → HasBit new.at_hand.items u
   pub there : (u : Occ) → HasBit new.at_hand.items u → HasBit old.at_hand.items u ⊎ (u.occ ≡ k)
 

@@ -1,12 +1,12 @@
 //! The item that the construction chooses next.
-ghost use Rattle.std.specs.Prelude.{◌≡◌, ◌↔◌, ◌⊎◌, ◌+◌, ◌^◌, ◌<◌, ◌≤◌, suc, ℕ, All, Contains, length, IsBitSet, IsTrue, IfOk, MatchOption, slice_index};
+ghost use Rattle.std.specs.Prelude.{◌≡◌, ◌↔◌, ◌⊎◌, ◌+◌, ◌^◌, ◌<◌, ◌≤◌, suc, ℕ, All, Contains, length, IsBitSet, IsTrue, IfOk, MatchOption, Some, slice_get, slice_index};
 ghost use Rattle.flat_grammar.specs.declared.flat.Occ.{Occ as Occurrence};
 ghost use Rattle.flat_grammar.specs.Construction.{IsChosen};
 ghost use Rattle.flat_grammar.specs.Cycles.{IsAtMost};
 ghost use Rattle.flat_grammar.specs.Partition.{AreAllVisits};
 ghost use Rattle.flat_grammar.specs.declared.plan.PlanItem.TheVariants.{Visit};
 ghost use Rattle.visit_sequences.specs.declared.goals.Goal.{Goal as Waiting};
-ghost use Rattle.visit_sequences.specs.Steps.{AreGoals, Follows, HasBit, HasLeft, IsLeastChild, IsLeft, IsNextAt, IsNoChild, IsOfUseFrom, IsOpen, IsReadyAt, Owes, OwesClass, Sorts, row_of};
+ghost use Rattle.visit_sequences.specs.Steps.{AreEvaluated, AreGoals, Follows, HasBit, HasLeft, IsLeastChild, IsLeft, IsNextAt, IsNoChild, IsOfUseFrom, IsOpen, IsReadyAt, Owes, OwesClass, Sorts, row_of};
 
 use crate::goals::Goal;
 use crate::progress::Progress;
@@ -107,24 +107,43 @@ impl Progress {
         }
     }
 
-    /// Whether a goal is not evaluated.
-    fn has_left(&self, goals: &[Goal]) -> bool
-        ensures { IsTrue result ↔ HasLeft goals.now self.now }
+    /// The place of the first goal that is not evaluated, where those before this place are.
+    pub fn evaluated_from(&self, goals: &[Goal], done: usize) -> usize
+        requires { AreEvaluated self.now goals.now done }
+        ensures all { AreEvaluated self.now goals.now result }
+        ensures stops { (g : Waiting) → slice_get goals.now result ≡ Some g → ¬ HasBit self.now.evaluated.items g.goal }
     {
-        for goal in goals {
-            if !self.is_evaluated(goal.goal) {
-                return true;
+        for k in done..goals.len() {
+            if !self.is_evaluated(goals[k].goal) {
+                return k;
             }
         }
-        false
+        goals.len()
+    }
+
+    /// Whether a goal is not evaluated, by the place of the first one.
+    fn has_left(&self, goals: &[Goal], done: usize) -> bool
+        requires all { AreEvaluated self.now goals.now done }
+        requires stops { (g : Waiting) → slice_get goals.now done ≡ Some g → ¬ HasBit self.now.evaluated.items g.goal }
+        ensures { IsTrue result ↔ HasLeft goals.now self.now }
+    {
+        done < goals.len()
     }
 
     /// Whether the present visit owes something: its synthesized attributes, or in the last one any goal.
-    fn owes(&self, visits: &[List<VisitClass>], rule: &FlatRule, goals: &[Goal]) -> bool
+    fn owes(
+        &self,
+        visits: &[List<VisitClass>],
+        rule: &FlatRule,
+        goals: &[Goal],
+        done: usize,
+    ) -> bool
+        requires all { AreEvaluated self.now goals.now done }
+        requires stops { (g : Waiting) → slice_get goals.now done ≡ Some g → ¬ HasBit self.now.evaluated.items g.goal }
         ensures { IsTrue result ↔ Owes visits.now rule.now self.now goals.now }
     {
         let row = row_at(visits, rule, 0);
-        self.owes_class(row) || self.segment == row.len() && self.has_left(goals)
+        self.owes_class(row) || self.segment == row.len() && self.has_left(goals, done)
     }
 
     /// Whether the child's next visit is ready and not idle.
@@ -178,12 +197,15 @@ impl Progress {
         visits: &[List<VisitClass>],
         rule: &FlatRule,
         goals: &[Goal],
+        done: usize,
     ) -> Option<u16>
-        requires { length rule.now.right < 2 ^ 16 }
+        requires all { AreEvaluated self.now goals.now done }
+        requires stops { (g : Waiting) → slice_get goals.now done ≡ Some g → ¬ HasBit self.now.evaluated.items g.goal }
+        requires few { length rule.now.right < 2 ^ 16 }
         ensures { MatchOption result (Owes visits.now rule.now self.now goals.now → IsNoChild rule.now (IsReadyAt visits.now rule.now self.now))
             (λ k. Owes visits.now rule.now self.now goals.now × IsLeastChild rule.now (IsReadyAt visits.now rule.now self.now) k) }
     {
-        if !self.owes(visits, rule, goals) {
+        if !self.owes(visits, rule, goals, done) {
             return None;
         }
         self.ready_child(visits, rule)
@@ -223,6 +245,7 @@ impl Progress {
         rule: &FlatRule,
         goals: &[Goal],
         queue: &Queue,
+        done: usize,
     ) -> Result<PlanItem, Memory>
         requires visits { AreAllVisits flat.now.symbols flat.now.rules parts.now.visits }
         requires rule { Contains flat.now.rules rule.now }
@@ -230,13 +253,15 @@ impl Progress {
         requires follows { Follows parts.now.visits rule.now self.now }
         requires sorts { Sorts self.now goals.now queue.now }
         requires few { length queue.now.free.items ≤ 2 ^ 16 }
+        requires all { AreEvaluated self.now goals.now done }
+        requires stops { (g : Waiting) → slice_get goals.now done ≡ Some g → ¬ HasBit self.now.evaluated.items g.goal }
         ensures { IfOk result (IsChosen flat.now.symbols flat.now.rules parts.now.visits rule.now self.now.items.items) }
     {
         let visits = parts.visits.as_slice();
         if let Some(goal) = self.least_ready(goals, queue) {
             return Ok(PlanItem::Eval(goal));
         }
-        if let Some(occ) = self.owed_child(visits, rule, goals) {
+        if let Some(occ) = self.owed_child(visits, rule, goals, done) {
             return self.next_visit(occ);
         }
         if let Some(occ) = self.last_child(visits, rule) {

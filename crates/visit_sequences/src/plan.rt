@@ -54,8 +54,10 @@ fn sequence(
     let last = row_at(parts.visits.as_slice(), rule, 0).len();
     let mut progress = Progress::start(alloc, flat, parts, rule)?;
     let mut queue = Queue::start(alloc, &progress, &goals)?;
+    let mut done = 0;
     loop {
-        let item = progress.choose(flat, parts, rule, &goals, &queue)?;
+        done = progress.evaluated_from(&goals, done);
+        let item = progress.choose(flat, parts, rule, &goals, &queue, done)?;
         progress.take(flat, parts, rule, item)?;
         if is_end(item, last) {
             return Ok(List::from_vec(progress.into_items()));

@@ -1,4 +1,5 @@
-use Rattle.std.specs.Prelude.{unwrap_or}
+use Rattle.std.specs.Prelude.{unwrap_or, Contains, take}
+use Rattle.flat_grammar.proofs.Lists.{contains-nil}
 use Rattle.std.proofs.Common.{◌≡◌, ◌<◌, ◌≤◌, ◌∙◌, List, [], Option, ap, sym, subst, length, true≢false, arith, rules}
 use Rattle.std.proofs.lemmas.Grind.{common_steps}
 use Rattle.flat_grammar.specs.declared.plan.PlanItem.TheVariants.{Leave}
@@ -31,17 +32,18 @@ loop-queue-preserved c =
       chosen = subst (EachChosen visits r flat.symbols flat.rules) (sym c.in_ok-take.ensures.items) (each-more visits r flat.symbols flat.rules items c.in_ok-item.item c.loop-queue.invariant.chosen c.in_ok-item.ensures);
       within = subst (λ l. segment_after l ≤ length (row_of visits r 0)) (sym c.in_ok-take.ensures.items) (still-within visits r flat.symbols flat.rules items c.in_ok-item.item c.in_ok-item.ensures c.loop-queue.invariant.within
           (λ e. true≢false (sym (c.is_end.ensures.1 (e ∙ ap (λ (l : List VisitClass). Leave (length l)) (sym row))) ∙ c.if-is_end.false)));
-      sorts = subst (λ l. Sorts c.take.new.self l c.wake.new.self) c.deref-in-loop-queue-2.ensures.value c.in_ok-wake.ensures.sorts;
+      sorts = subst (λ l. Sorts c.take.new.self l c.wake.new.self) c.deref-in-loop-queue-3.ensures.value c.in_ok-wake.ensures.sorts;
+      done = λ g m. c.in_ok-take.ensures.changes.evaluated g.goal (c.evaluated_from-done.ensures.all g (subst (λ l. Contains (take c.evaluated_from-done.result l) g) (sym c.deref-in-loop-queue.ensures.value) m));
       few = (let e = c.in_ok-wake.ensures.each in let f = c.loop-queue.invariant.few in omega (arith, e, f));
     }
 
 pub choose-requires-clause-sorts : goal.choose-requires-clause-sorts
-choose-requires-clause-sorts c = subst (λ l. Sorts c.loop-queue.progress l c.loop-queue.queue) (sym c.deref-in-loop-queue.ensures.value) c.loop-queue.invariant.sorts
+choose-requires-clause-sorts c = subst (λ l. Sorts c.loop-queue.progress l c.loop-queue.queue) (sym c.deref-in-loop-queue-2.ensures.value) c.loop-queue.invariant.sorts
 
 pub wake-requires : goal.wake-requires
 wake-requires c = (
   c.loop-queue.progress,
-  subst (λ l. Sorts c.loop-queue.progress l c.loop-queue.queue) (sym c.deref-in-loop-queue-2.ensures.value) c.loop-queue.invariant.sorts,
+  subst (λ l. Sorts c.loop-queue.progress l c.loop-queue.queue) (sym c.deref-in-loop-queue-3.ensures.value) c.loop-queue.invariant.sorts,
   subst (λ k. Changes c.loop-queue.progress c.take.new.self k) (sym c.place.ensures) c.in_ok-take.ensures.changes,
 )
 
@@ -59,6 +61,9 @@ returns-then-is_end c =
     subst (IsConstructed flat.symbols flat.rules visits r) (sym (c.from_vec.ensures ∙ (ap (λ v. v.items) c.into_items.ensures ∙ c.in_ok-take.ensures.items)))
     (whole-sequence visits r flat.symbols flat.rules items item left.0 left.1 (ap (λ (o : Option (List VisitClass)). length (unwrap_or o [])) left.1) each end)
 
+pub evaluated_from-done-requires : goal.evaluated_from-done-requires
+evaluated_from-done-requires c = λ g m. c.loop-queue.invariant.done g (subst (λ l. Contains (take c.loop-queue.done l) g) c.deref-in-loop-queue.ensures.value m)
+
 pub loop-queue-init : goal.loop-queue-init
 loop-queue-init c =
     let flat = c.args.flat.now in
@@ -73,5 +78,6 @@ loop-queue-init c =
       chosen = first_of (search rules, grind (arith, common_steps));
       within = omega (arith, e, l, h);
       sorts = subst (λ l. Sorts c.in_ok-progress.progress l c.in_ok-queue.queue) c.deref.ensures.value c.in_ok-queue.ensures.sorts;
+      done = λ g m. absurd (contains-nil g m);
       few = first_of (search rules, grind (arith, common_steps));
     }

@@ -1,3 +1,2 @@
-pub mod CopiedText
 pub mod EmptyText
 pub mod OppositeOrders

@@ -3,7 +3,7 @@ ghost use Rattle.std.specs.Prelude.{◌≡◌, IfOk};
 ghost use Rattle.trials_of_grammar.specs.CrossedUses.{symbols as two_symbols, shapes as two_shapes, X_rule};
 ghost use Rattle.trials_of_dependencies.specs.EmptyText.{rules as two_rules, S_rule};
 
-use crate::parts::{
+use trials_of_plans::parts::{
     attribute, computation, occurrence, one, plain_shape, rule, symbol, three, two,
 };
 use flat_grammar::{Flat, FlatExpr, FlatRule, FlatSymbol, Shape};

@@ -2,8 +2,6 @@
 #![tactic(auto)]
 
 pub mod crossed_uses;
-pub mod late_inherited;
 pub mod opposite_orders;
-mod parts;
 #[cfg(test)]
 mod tests;

@@ -2,7 +2,7 @@
 ghost use Rattle.std.specs.Prelude.{◌≡◌, IfOk};
 ghost use Rattle.trials_of_dependencies.specs.OppositeOrders.{symbols as two_symbols, rules as three_rules, shapes as three_shapes, out_of_S, X_rule, A_rule, B_rule};
 
-use crate::parts::{
+use trials_of_plans::parts::{
     attribute, computation, occurrence, one, plain_shape, rule, symbol, three, two,
 };
 use flat_grammar::{Flat, FlatComp, FlatExpr, FlatRule, FlatSymbol, Shape};

@@ -1,7 +1,8 @@
 //! The induced dependencies of the grammars.
-use crate::{crossed_uses, late_inherited, opposite_orders};
+use crate::{crossed_uses, opposite_orders};
 use induced_deps::induce;
 use std::test::Fail;
+use trials_of_plans::late_inherited;
 
 #[test]
 fn rows_of_three_grammars(rt: HostRuntime) -> Result<(), Fail> {

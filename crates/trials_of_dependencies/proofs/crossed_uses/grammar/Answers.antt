@@ -1,7 +1,8 @@
 use Rattle.trials_of_grammar.specs.CrossedUses.{symbols, shapes}
 use Rattle.trials_of_dependencies.specs.EmptyText.{rules}
 use Rattle.trials_of_grammar.specs.ListOfItems.{symbol}
-use Rattle.trials_of_dependencies.proofs.WellFormedGrammars.{crossed-well-formed, same-well-formed}
+use Rattle.trials_of_plans.proofs.WellFormedGrammars.{same-well-formed}
+use Rattle.trials_of_dependencies.proofs.WellFormedGrammars.{crossed-well-formed}
 use Rattle.trials_of_dependencies.proofs.crossed_uses.grammar.Goals as goal
 
 pub invariant_of-result : goal.invariant_of-result

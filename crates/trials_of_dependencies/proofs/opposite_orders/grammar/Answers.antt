@@ -1,6 +1,7 @@
 use Rattle.trials_of_dependencies.specs.OppositeOrders.{symbols, rules, shapes}
 use Rattle.trials_of_grammar.specs.ListOfItems.{symbol}
-use Rattle.trials_of_dependencies.proofs.WellFormedGrammars.{opposite-well-formed, same-well-formed}
+use Rattle.trials_of_plans.proofs.WellFormedGrammars.{same-well-formed}
+use Rattle.trials_of_dependencies.proofs.WellFormedGrammars.{opposite-well-formed}
 use Rattle.trials_of_dependencies.proofs.opposite_orders.grammar.Goals as goal
 
 pub invariant_of-result : goal.invariant_of-result

@@ -11,3 +11,4 @@ pub mod PartsLemmas
 pub mod FrontsLemmas
 pub mod One
 pub mod Reading
+pub mod TablesLemmas

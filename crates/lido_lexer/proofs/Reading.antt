@@ -39,7 +39,7 @@ kind_kept old new (kind.Literal id) gains less = ap Literal (text_kept old new i
 kind_kept old new (kind.Sign sign) gains less = refl
 
 -- tokens show the same once more texts are there
-shown_kept : (old new : List (List ℕ)) (tokens : List Token) → Gains old new → All (λ (t : Token). HasText (length old) t.what) tokens
+pub shown_kept : (old new : List (List ℕ)) (tokens : List Token) → Gains old new → All (λ (t : Token). HasText (length old) t.what) tokens
     → map (shown_in new) tokens ≡ map (shown_in old) tokens
 shown_kept old new [] gains ids = refl
 shown_kept old new (t ∷ tokens) gains ids =

@@ -6,3 +6,4 @@ pub mod Tokens
 pub mod Lexemes
 pub mod Lexing
 pub mod Seen
+pub mod Tables

@@ -1,13 +1,15 @@
 //! Laws of the grammar of tokens. Each function does nothing; what is proved is its contract.
-ghost use Rattle.std.specs.Prelude.{◌≡◌, ◌≤◌, ◌++◌, ◌∷◌, List, ℕ, Some, length, Option, Result};
+ghost use Rattle.std.specs.Prelude.{◌≡◌, ◌≤◌, ◌++◌, ◌∷◌, List, ℕ, Some, length, map, All, Option, Result};
+ghost use Rattle.lido_base.specs.Texts.{IsDistinctTexts};
 ghost use Rattle.lido_lexer.specs.declared.keyword.Keyword.{Keyword};
 ghost use Rattle.lido_lexer.specs.declared.sign.Sign.{Sign};
 ghost use Rattle.lido_lexer.specs.declared.token.LexFault.{LexFault};
+ghost use Rattle.lido_lexer.specs.declared.token.Token.{Token};
 ghost use Rattle.lido_lexer.specs.Gaps.{IsGap};
 ghost use Rattle.lido_lexer.specs.Keywords.{keyword_spelling, keyword_of};
 ghost use Rattle.lido_lexer.specs.Signs.{sign_spelling, sign_of};
 ghost use Rattle.lido_lexer.specs.Tokens.{Shown, IsFront};
-ghost use Rattle.lido_lexer.specs.Lexing.{Placed, Lexes, IsCutInto, IsStuck, Lexing};
+ghost use Rattle.lido_lexer.specs.Lexing.{Placed, HasText, Lexes, IsCutInto, IsStuck, Lexing, shown_in};
 
 /// A text has one list of tokens at most, or is stuck at one place at most, and never both.
 pub fn one_answer()
@@ -19,6 +21,13 @@ pub fn one_answer()
 pub fn one_cut()
     ensures { (text : List ℕ) (first second : List Placed) (stuck other : Option ℕ)
         → IsCutInto (length text) text first stuck → IsCutInto (length text) text second other → (first ≡ second) × (stuck ≡ other) }
+{}
+
+/// Over one table of distinct texts, tokens that show the same are the same.
+pub fn tokens_are_told_apart()
+    ensures { (texts : List (List ℕ)) (tokens others : List Token) → IsDistinctTexts texts
+        → All (λ token. HasText (length texts) token.what) tokens → All (λ token. HasText (length texts) token.what) others
+        → map (shown_in texts) tokens ≡ map (shown_in texts) others → tokens ≡ others }
 {}
 
 /// What is in front is settled: one token at most, one piece between tokens at most, and never both.

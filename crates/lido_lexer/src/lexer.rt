@@ -1,9 +1,11 @@
 //! A whole text is cut into its tokens.
-ghost use Rattle.std.specs.Prelude.{◌≡◌, ◌+◌, ◌<◌, ◌≤◌, ◌^◌, List, ℕ, Some, length, map, slice_get, IfOk, IfErr, IfSome, All};
+ghost use Rattle.std.specs.Prelude.{◌≡◌, ◌⊎◌, ◌+◌, ◌<◌, ◌≤◌, ◌^◌, List, ℕ, Some, length, map, slice_get, IfOk, IfErr, IfSome, All};
 ghost use Rattle.lido_base.specs.Phases.{Gives};
+ghost use Rattle.lido_base.specs.Texts.{with_text};
 ghost use Rattle.lido_lexer.specs.Lexemes.{name_shown, said};
 ghost use Rattle.lido_lexer.specs.Tokens.{IsFront, shown_kind};
 ghost use Rattle.lido_lexer.specs.Lexing.{Gains, HasText, IsCutInto, IsInOrder, IsRefusal, Lexing, place, placed, shown_in};
+ghost use Rattle.lido_lexer.specs.Tables.{LexedFrom, interned, text_of, texts_in};
 
 use crate::gaps::skip_gaps;
 use crate::keyword::keyword_of;
@@ -15,6 +17,7 @@ use std::alloc::Global;
 /// The id of a text.
 fn intern(strings: &mut Strings, text: &[u8]) -> Result<StrId, LexFault>
     ensures text { IfOk result (λ id. slice_get strings.new id.0 ≡ Some text.now) }
+    ensures table { IfOk result (λ _. strings.new ≡ with_text strings.old text.now) }
     ensures kept { Gains strings.old strings.new }
     ensures few { length strings.new ≤ length strings.old + 1 }
     ensures memory { IfErr result (λ e. e ≡ LexFault.Memory) }
@@ -29,6 +32,7 @@ fn intern(strings: &mut Strings, text: &[u8]) -> Result<StrId, LexFault>
 fn name_kind(strings: &mut Strings, name: &[u8]) -> Result<TokenKind, LexFault>
     ensures shown { IfOk result (λ what. shown_kind strings.new what ≡ name_shown name.now) }
     ensures text { IfOk result (λ what. HasText (length strings.new) what) }
+    ensures table { IfOk result (λ what. strings.new ≡ interned strings.old (text_of (shown_kind strings.new what))) }
     ensures kept { Gains strings.old strings.new }
     ensures few { length strings.new ≤ length strings.old + 1 }
     ensures memory { IfErr result (λ e. e ≡ LexFault.Memory) }
@@ -46,6 +50,7 @@ fn name_kind(strings: &mut Strings, name: &[u8]) -> Result<TokenKind, LexFault>
 fn token_kind(strings: &mut Strings, lexeme: Lexeme) -> Result<TokenKind, LexFault>
     ensures shown { IfOk result (λ what. shown_kind strings.new what ≡ said lexeme.entry) }
     ensures text { IfOk result (λ what. HasText (length strings.new) what) }
+    ensures table { IfOk result (λ what. strings.new ≡ interned strings.old (text_of (shown_kind strings.new what))) }
     ensures kept { Gains strings.old strings.new }
     ensures few { length strings.new ≤ length strings.old + 1 }
     ensures memory { IfErr result (λ e. e ≡ LexFault.Memory) }
@@ -87,7 +92,9 @@ fn next_token<'a>(
     ensures shown { IfOk result (λ x. shown_in strings.new x.0 ≡ placed (length text.now) left.now (shown_kind strings.new x.0.what) x.1.now) }
     ensures shorter { IfOk result (λ x. length x.1.now < length left.now) }
     ensures text { IfOk result (λ x. HasText (length strings.new) x.0.what) }
+    ensures table { IfOk result (λ x. strings.new ≡ interned strings.old (text_of (shown_kind strings.new x.0.what))) }
     ensures refusal { IfErr result (λ e. IsRefusal (length text.now) left.now e) }
+    ensures same { IfErr result (λ e. (e ≡ LexFault.Memory) ⊎ (strings.new ≡ strings.old)) }
     ensures kept { Gains strings.old strings.new }
     ensures few { length strings.new ≤ length strings.old + 1 }
 {
@@ -118,6 +125,8 @@ pub fn lex_as_far(alloc: Global, text: &[u8], strings: &mut Strings) -> Result<L
     requires { length text.now ≤ 8388608 }
     // Read with the texts of `strings`, the tokens are those that the text spells.
     ensures cut { IfOk result (λ lexed. IsCutInto (length text.now) text.now (map (shown_in strings.new) lexed.tokens.items) lexed.stuck) }
+    // The texts behind those that were there are the new ones among the tokens' texts, in order.
+    ensures table { IfOk result (λ lexed. strings.new ≡ interned strings.old (texts_in (map (shown_in strings.new) lexed.tokens.items))) }
     ensures memory { IfErr result (λ e. e ≡ LexFault.Memory) }
     ensures ids { IfOk result (λ lexed. All (λ token. HasText (length strings.new) token.what) lexed.tokens.items) }
     ensures in_order { IfOk result (λ lexed. IsInOrder 0 (length text.now) lexed.tokens.items) }
@@ -158,6 +167,8 @@ pub fn lex(alloc: Global, text: &[u8], strings: &mut Strings) -> Result<Vec<Toke
     requires { length text.now ≤ 8388608 }
     // Read with the texts of `strings`, the answer is what the text spells, and nothing else is.
     ensures gives { Gives (λ tokens. map (shown_in strings.new) tokens.items) (Lexing text.now) LexFault.Memory result }
+    // What was in `strings` and the text decide of the answer and of what is in `strings` now.
+    ensures reads { Gives (λ tokens. (strings.new, tokens.items)) (LexedFrom strings.old text.now) LexFault.Memory result }
     ensures ids { IfOk result (λ tokens. All (λ token. HasText (length strings.new) token.what) tokens.items) }
     ensures in_order { IfOk result (λ tokens. IsInOrder 0 (length text.now) tokens.items) }
     ensures count { IfOk result (λ tokens. length tokens.items ≤ length text.now) }
@@ -168,6 +179,8 @@ pub fn lex(alloc: Global, text: &[u8], strings: &mut Strings) -> Result<Vec<Toke
         Ok(lexed) => lexed,
         Err(e) => return Err(e),
     };
+    // Ids tell texts apart.
+    let _texts = strings.len();
     if let Some(at) = stuck {
         return Err(LexFault::Lexical { at });
     }

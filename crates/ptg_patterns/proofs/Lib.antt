@@ -6,5 +6,3 @@ pub mod MeaningLemmas
 pub mod OneLemmas
 pub mod IdsLemmas
 pub mod CountsLemmas
-pub mod RenamingLemmas
-pub mod IndependenceLemmas

@@ -1,20 +1,16 @@
 -- A text says one thing.
-use Rattle.std.proofs.Common.{◌≡◌, ℕ, ◌+◌, ◌<◌, ◌≤◌, inl, inr, Bool, true, false, List, [], ◌∷◌, ◌++◌, length, map, take, drop, Option, Some, slice_get, unwrap_or, Result, Ok, Err, All, refl, sym, ap, subst, ◌∙◌, arith, append_assoc}
+use Rattle.std.proofs.Common.{◌≡◌, ℕ, ◌+◌, ◌<◌, ◌≤◌, inl, inr, Bool, true, false, List, [], ◌∷◌, ◌++◌, length, map, take, drop, Option, Result, Ok, Err, refl, sym, ap, subst, ◌∙◌, arith, append_assoc}
 use Rattle.std.proofs.lemmas.List.{take-append-drop, take-take}
-use Rattle.std.proofs.lemmas.List.Elements.{All-head, All-tail}
 use Rattle.std.proofs.lemmas.Bool.{cases_order}
-use Rattle.std.proofs.lemmas.Option.{slice_get-get_or, unwrap_or-slice_get}
 use Rattle.lido_base.specs.Reading.{Begins, IsFaultPlace}
 use Rattle.lido_base.specs.Phases.{IsThe}
 use Rattle.lido_base.specs.Texts.{IsDistinctTexts}
-use Rattle.lido_base.proofs.TextsLemmas.{same_place}
 use Rattle.lido_base.specs.declared.pattern.Pattern.{Pattern}
-use Rattle.lido_lexer.specs.Tokens.{shown_kind}
-use Rattle.lido_lexer.specs.Lexing.{Placed, HasText, shown_in}
+use Rattle.lido_lexer.specs.Lexing.{Placed}
 use Rattle.lido_lexer.specs.declared.token.Token.{Token}
-use Rattle.lido_lexer.specs.declared.token.TokenKind.{TokenKind}
-use Rattle.lido_lexer.specs.declared.token.TokenKind.TheVariants as kind
+use Rattle.lido_lexer.specs.Tables.{interned, texts_in}
 use Rattle.lido_lexer.proofs.One.{one_cut}
+use Rattle.lido_lexer.proofs.TablesLemmas.{same_tokens}
 use Rattle.ptg_patterns.specs.declared.fault.PtgFault.{PtgFault}
 use Rattle.ptg_patterns.specs.declared.fault.PtgFault.TheVariants.{PtgSyntax, PtgMixed}
 use Rattle.ptg_patterns.specs.declared.marks.Mark.{Mark}
@@ -25,7 +21,7 @@ use Rattle.ptg_patterns.specs.Marks.{marks_up_to}
 use Rattle.ptg_patterns.specs.Language.{IsItems, end, text, bare, numbered, opened, closed, IsWritten, none, pattern, IsText}
 use Rattle.ptg_patterns.specs.Meaning.{points, pattern_of}
 use Rattle.ptg_patterns.specs.Clashes.{IsMixed, IsMixedAt, IsRefused, duplicate, mixed, CantStand, IsClash}
-use Rattle.ptg_patterns.specs.Texts.{AreTokens, Reads, PatternsOf, place_of}
+use Rattle.ptg_patterns.specs.Texts.{AreTokens, Reads, PatternsOf, IsTableBehind, PatternsFrom, place_of}
 use Rattle.ptg_patterns.proofs.FrontsLemmas.{item_in_front, head_in_front}
 use Rattle.ptg_patterns.proofs.FirstLemmas.{one_first, no_first}
 
@@ -137,42 +133,6 @@ one_reading texts size tokens stuck (Err e) (Err f) (inr x) (inr y) =
 
 -- ---- one list of tokens
 
-there : (texts : List (List ℕ)) (i : ℕ) → i < length texts → slice_get texts i ≡ Some (unwrap_or (slice_get texts i) [])
-there texts i less = slice_get-get_or texts i [] less ∙ ap Some (sym (unwrap_or-slice_get texts i []))
-
-same_id : (texts : List (List ℕ)) → IsDistinctTexts texts → (i j : ℕ) → i < length texts → j < length texts → unwrap_or (slice_get texts i) [] ≡ unwrap_or (slice_get texts j) [] → i ≡ j
-same_id texts distinct i j a b e = same_place texts distinct i j (unwrap_or (slice_get texts j) []) (there texts i a ∙ ap Some e) (there texts j b)
-
-same_kind : (texts : List (List ℕ)) → IsDistinctTexts texts → (a b : TokenKind) → HasText (length texts) a → HasText (length texts) b → shown_kind texts a ≡ shown_kind texts b → a ≡ b
-same_kind texts distinct (kind.Word i) (kind.Word j) a b e =
-    let inner : unwrap_or (slice_get texts i.0) [] ≡ unwrap_or (slice_get texts j.0) [] = cc in
-    ap (λ (n : ℕ). kind.Word (record { 0 = n })) (same_id texts distinct i.0 j.0 a b inner)
-same_kind texts distinct (kind.Str i) (kind.Str j) a b e =
-    let inner : unwrap_or (slice_get texts i.0) [] ≡ unwrap_or (slice_get texts j.0) [] = cc in
-    ap (λ (n : ℕ). kind.Str (record { 0 = n })) (same_id texts distinct i.0 j.0 a b inner)
-same_kind texts distinct (kind.Literal i) (kind.Literal j) a b e =
-    let inner : unwrap_or (slice_get texts i.0) [] ≡ unwrap_or (slice_get texts j.0) [] = cc in
-    ap (λ (n : ℕ). kind.Literal (record { 0 = n })) (same_id texts distinct i.0 j.0 a b inner)
-same_kind texts distinct (kind.Key v) (kind.Key w) a b e = let inner : v ≡ w = cc in ap (λ k. kind.Key k) inner
-same_kind texts distinct (kind.Int v) (kind.Int w) a b e = let inner : v ≡ w = cc in ap (λ k. kind.Int k) inner
-same_kind texts distinct (kind.Sign v) (kind.Sign w) a b e = let inner : v ≡ w = cc in ap (λ k. kind.Sign k) inner
-same_kind texts distinct _ _ a b e = cc
-
-same_tokens : (texts : List (List ℕ)) → IsDistinctTexts texts → (tokens others : List Token) → All (λ (t : Token). HasText (length texts) t.what) tokens
-    → All (λ (t : Token). HasText (length texts) t.what) others → map (shown_in texts) tokens ≡ map (shown_in texts) others → tokens ≡ others
-same_tokens texts distinct [] [] a b e = refl
-same_tokens texts distinct [] (u ∷ others) a b e = cc
-same_tokens texts distinct (t ∷ tokens) [] a b e = cc
-same_tokens texts distinct (t ∷ tokens) (u ∷ others) a b e =
-    let P : Token → Type 0 = λ v. HasText (length texts) v.what in
-    let head : shown_in texts t ≡ shown_in texts u = cc in
-    let tail : map (shown_in texts) tokens ≡ map (shown_in texts) others = cc in
-    let from = ap (λ (p : Placed). p.from) head in
-    let to = ap (λ (p : Placed). p.to) head in
-    let what = same_kind texts distinct t.what u.what (All-head P t tokens a) (All-head P u others b) (ap (λ (p : Placed). p.what) head) in
-    let later = same_tokens texts distinct tokens others (All-tail P t tokens a) (All-tail P u others b) tail in
-    λ j. record { from = from j; to = to j; what = what j } ∷ later j
-
 one_tokens : (texts bytes : _) → IsDistinctTexts texts → (tokens others : List Token) (stuck other : Option ℕ) → AreTokens texts bytes tokens stuck → AreTokens texts bytes others other
     → (others ≡ tokens) × (other ≡ stuck)
 one_tokens texts bytes distinct tokens others stuck other a b =
@@ -193,3 +153,16 @@ is_the texts bytes tokens stuck r distinct are reads = record {
         let both = one_tokens texts bytes distinct tokens others stuck other are are' in
         one_reading texts (length bytes) tokens stuck r s reads
         (subst (λ (o : Option ℕ). Reads texts (length bytes) tokens o s) both.1 (subst (λ (l : List Token). Reads texts (length bytes) l other s) both.0 reads'))
+
+-- ---- one table
+
+one_table : (texts : List (List ℕ)) (bytes : List ℕ) (later other : List (List ℕ)) → IsTableBehind texts bytes later → IsTableBehind texts bytes other → other ≡ later
+one_table texts bytes later other a b = b.table ∙ ap (λ (l : List Placed). interned texts (texts_in l)) (one_cut b.cut a.cut).0 ∙ sym a.table
+
+-- what a text says with the ids of the table behind it is what it says behind these texts
+pub from_is : (texts : List (List ℕ)) (bytes : List ℕ) (later : List (List ℕ)) (r : Result (List Pattern) PtgFault) → IsTableBehind texts bytes later
+    → IsThe (PatternsOf later bytes) r → IsThe (PatternsFrom texts bytes) r
+from_is texts bytes later r table the = record {
+  is = record { later = later; table = table; says = the.is };
+  only = λ s from. the.only s (subst (λ (l : List (List ℕ)). PatternsOf l bytes s) (one_table texts bytes later from.later table from.table) from.says);
+}

@@ -2,7 +2,8 @@
 use Rattle.std.specs.Prelude.{◌≡◌, ◌⊎◌, ℕ, List, length, map, All, Option, Some, None, slice_get, unwrap_or, Result, Ok, Err}
 use Rattle.lido_base.specs.Reading.{IsFaultPlace}
 use Rattle.lido_base.specs.declared.pattern.Pattern.{Pattern}
-use Rattle.lido_lexer.specs.Lexing.{IsCutInto, HasText, shown_in}
+use Rattle.lido_lexer.specs.Lexing.{Placed, IsCutInto, HasText, shown_in}
+use Rattle.lido_lexer.specs.Tables.{interned, texts_in}
 use Rattle.lido_lexer.specs.declared.token.Token.{Token}
 use Rattle.ptg_patterns.specs.declared.fault.PtgFault.{PtgFault}
 use Rattle.ptg_patterns.specs.declared.fault.PtgFault.TheVariants.{PtgSyntax}
@@ -34,7 +35,15 @@ module _ (texts : List (List ℕ)) where
   unfoldable pub PatternsOf : List ℕ → Result (List Pattern) PtgFault → Type 0
   PatternsOf bytes result = (tokens : List Token) × (stuck : Option ℕ) × AreTokens bytes tokens stuck × Reads (length bytes) tokens stuck result
 
--- The fault of an answer, if it is one.
-abbrev pub fault_of : Result (List Pattern) PtgFault → Option PtgFault
-fault_of (Ok patterns) = None
-fault_of (Err fault) = Some fault
+-- The table has what was there, and behind it the new texts among those of the tokens in front of the text, in order.
+pub record IsTableBehind (texts : List (List ℕ)) (bytes : List ℕ) (later : List (List ℕ)) : Type 0 where
+  pub tokens : List Placed
+  pub stuck : Option ℕ
+  pub cut : IsCutInto (length bytes) bytes tokens stuck
+  pub table : later ≡ interned texts (texts_in tokens)
+
+-- What a text says when it is read behind these texts.
+pub record PatternsFrom (texts : List (List ℕ)) (bytes : List ℕ) (result : Result (List Pattern) PtgFault) : Type 0 where
+  pub later : List (List ℕ)
+  pub table : IsTableBehind texts bytes later
+  pub says : PatternsOf later bytes result

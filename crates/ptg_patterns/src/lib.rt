@@ -4,7 +4,6 @@
 mod arguments;
 mod fault;
 mod function;
-pub mod laws;
 mod marks;
 mod patterns;
 mod reading;

@@ -3,7 +3,7 @@ ghost use Rattle.std.specs.Prelude.{◌≡◌, ◌⊎◌, ◌+◌, ◌≤◌, �
 ghost use Rattle.lido_base.specs.Phases.{Gives};
 ghost use Rattle.lido_base.specs.Texts.{IsDistinctTexts};
 ghost use Rattle.lido_lexer.specs.Lexing.{Gains, HasText};
-ghost use Rattle.ptg_patterns.specs.Texts.{PatternsOf, Reads, place_of};
+ghost use Rattle.ptg_patterns.specs.Texts.{IsTableBehind, PatternsFrom, PatternsOf, Reads, place_of};
 
 use crate::PtgFault;
 use crate::marks::marks;
@@ -78,6 +78,10 @@ pub fn read_patterns(
     requires { length text.now ≤ 8388608 }
     // With the ids of `strings`, the answer is what the text says, and nothing else is.
     ensures gives { Gives (λ patterns. patterns.list) (PatternsOf strings.new text.now) PtgFault.Memory result }
+    // What was in `strings` and the text decide of the answer, and of what is in `strings` now.
+    ensures reads { Gives (λ patterns. patterns.list) (PatternsFrom strings.old text.now) PtgFault.Memory result }
+    ensures table { IfOk result (λ _. IsTableBehind strings.old text.now strings.new) }
+    ensures table_of_fault { IfErr result (λ e. (e ≡ PtgFault.Memory) ⊎ IsTableBehind strings.old text.now strings.new) }
     ensures arguments { IfOk result (λ patterns. All (λ pattern. length pattern.args ≤ 64) patterns.list) }
     ensures names { IfOk result (λ patterns. All (λ pattern. pattern.name.0 < length strings.new) patterns.list) }
     ensures distinct { IsDistinctTexts strings.new }

@@ -2,11 +2,11 @@
 use Rattle.std.proofs.Common.{◌≡◌, ℕ, ℤ, ◌<◌, List, [], ◌∷◌, length, codes, pos, Some, None, Ok, refl, arith, rules, zero, suc, inl}
 use Rattle.std.specs.Fmt.{digits, signed_decimal}
 use Rattle.lido_base.specs.Phases.{OneOf}
-use Rattle.tree_reader.specs.declared.form.TreeNode.{TreeNode}
-use Rattle.tree_reader.specs.declared.form.Child.TheVariants as children
-use Rattle.tree_reader.specs.Marks.{Spells}
-use Rattle.tree_reader.specs.Trees.{Forest, none, node, leaf, marks_of, IsTree}
-use Rattle.tree_reader.proofs.Order.{tree_preorder}
+use Rattle.sum_trees.specs.declared.form.TreeNode.{TreeNode}
+use Rattle.sum_trees.specs.declared.form.Child.TheVariants as children
+use Rattle.sum_trees.specs.Marks.{Spells}
+use Rattle.sum_trees.specs.Trees.{Forest, none, node, leaf, marks_of, IsTree}
+use Rattle.sum_trees.proofs.Order.{tree_preorder}
 use Rattle.lido_top.specs.Sums.{value_at, sum_at, AllStay}
 use Rattle.lido_top.specs.Job.{sum_rules, IsResult}
 use Rattle.lido_top.specs.Answer.{TextOf, FirstPathOf, AnswerOf}

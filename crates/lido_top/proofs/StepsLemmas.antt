@@ -2,8 +2,8 @@
 use Rattle.std.proofs.Common.{◌≡◌, ◌⊎◌, ℕ, List, Result, Ok, Err, inl, inr, ◌∙◌}
 use Rattle.lido_base.specs.Phases.{IsThe, OneOf}
 use Rattle.lido_base.proofs.PhasesLemmas.{the_one_of, one_as, none_as}
-use Rattle.tree_reader.specs.declared.form.FormFault.{FormFault}
-use Rattle.tree_reader.specs.declared.form.FormFault.TheVariants as fault
+use Rattle.sum_trees.specs.declared.form.FormFault.{FormFault}
+use Rattle.sum_trees.specs.declared.form.FormFault.TheVariants as fault
 use Rattle.order_report.specs.declared.status.Status.TheVariants as status
 use Rattle.lido_top.specs.Job.{IsResult}
 use Rattle.lido_top.specs.Answer.{FirstPathOf}

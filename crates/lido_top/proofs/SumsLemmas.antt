@@ -2,13 +2,13 @@
 use Rattle.std.proofs.Common.{◌≡◌, ◌≢◌, ℕ, ℤ, ◌+◌, ◌-◌, ◌<◌, ◌≤◌, ◌+ℤ◌, pos, List, [], ◌∷◌, length, set, map, Option, Some, None, refl, ap, sym, ◌∙◌, arith, subst, slice_get, ⊎_elim, Result, Ok, Err, IfOk, IfErr, get_or-set_other, get_or-set_same, zero, suc, length-set, FitsSigned, w64}
 use Rattle.std.proofs.lemmas.Bool.{cases_eq}
 use Rattle.std.proofs.lemmas.List.{length-map}
-use Rattle.tree_reader.specs.declared.form.SumRule.{SumRule}
-use Rattle.tree_reader.specs.declared.form.TreeNode.{TreeNode}
-use Rattle.tree_reader.specs.declared.form.Child.{Child}
-use Rattle.tree_reader.specs.declared.form.Child.TheVariants as children
-use Rattle.tree_reader.specs.declared.form.FormFault.{FormFault}
-use Rattle.tree_reader.specs.declared.form.FormFault.TheVariants as fault
-use Rattle.tree_reader.specs.Trees.{node_at, IsPreorder}
+use Rattle.sum_trees.specs.declared.form.SumRule.{SumRule}
+use Rattle.sum_trees.specs.declared.form.TreeNode.{TreeNode}
+use Rattle.sum_trees.specs.declared.form.Child.{Child}
+use Rattle.sum_trees.specs.declared.form.Child.TheVariants as children
+use Rattle.sum_trees.specs.declared.form.FormFault.{FormFault}
+use Rattle.sum_trees.specs.declared.form.FormFault.TheVariants as fault
+use Rattle.sum_trees.specs.Trees.{node_at, IsPreorder}
 use Rattle.lido_top.specs.Sums.{value_at, child_value, place_value, sum_after, places_of, sum_at, Stays, StaysAt, AllStay, IsAttribution, IsOnlyAttribution}
 use Rattle.lido_top.specs.Steps.{AreSums}
 

@@ -1,10 +1,10 @@
 -- The one job that the first path knows: sums from a tree.
 use Rattle.std.specs.Prelude.{◌≡◌, ℕ, ℤ, List, [], ◌∷◌, ◌++◌, codes}
 use Rattle.std.specs.Fmt.{signed_decimal}
-use Rattle.tree_reader.specs.declared.form.SumRule.{SumRule}
-use Rattle.tree_reader.specs.declared.form.TreeNode.{TreeNode}
-use Rattle.tree_reader.specs.declared.form.Element.TheVariants as elements
-use Rattle.tree_reader.specs.Trees.{IsTree}
+use Rattle.sum_trees.specs.declared.form.SumRule.{SumRule}
+use Rattle.sum_trees.specs.declared.form.TreeNode.{TreeNode}
+use Rattle.sum_trees.specs.declared.form.Element.TheVariants as elements
+use Rattle.sum_trees.specs.Trees.{IsTree}
 use Rattle.lido_top.specs.Sums.{IsOnlyAttribution, AllStay, value_at}
 use Rattle.lido_top.specs.declared.job.TheConstants.{SUM_JOB}
 

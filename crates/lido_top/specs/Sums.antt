@@ -1,11 +1,11 @@
 -- Assignments of a number to each node of a tree, and the sums at the nodes.
 use Rattle.std.specs.Prelude.{◌≡◌, ℕ, ℤ, ◌-◌, ◌<◌, pos, ◌+ℤ◌, List, [], ◌∷◌, length, Option, Some, None, slice_get, slice_index_or, FitsSigned}
 use Rattle.std.specs.Int.{w64}
-use Rattle.tree_reader.specs.declared.form.SumRule.{SumRule}
-use Rattle.tree_reader.specs.declared.form.TreeNode.{TreeNode}
-use Rattle.tree_reader.specs.declared.form.Child.{Child}
-use Rattle.tree_reader.specs.declared.form.Child.TheVariants as children
-use Rattle.tree_reader.specs.Trees.{rule_at, node_at}
+use Rattle.sum_trees.specs.declared.form.SumRule.{SumRule}
+use Rattle.sum_trees.specs.declared.form.TreeNode.{TreeNode}
+use Rattle.sum_trees.specs.declared.form.Child.{Child}
+use Rattle.sum_trees.specs.declared.form.Child.TheVariants as children
+use Rattle.sum_trees.specs.Trees.{rule_at, node_at}
 
 -- the value of a node, by its number
 abbrev pub value_at : List ℤ → ℕ → ℤ

@@ -1,12 +1,12 @@
 //! The one job that the first path knows.
 ghost use Rattle.std.specs.Prelude.{◌≡◌, IfOk};
 ghost use Rattle.lido_base.specs.Phases.{Gives, OneOf};
-ghost use Rattle.tree_reader.specs.Trees.{IsReadable};
+ghost use Rattle.sum_trees.specs.Trees.{IsReadable};
 ghost use Rattle.lido_top.specs.Job.{sum_rules, IsJob};
 
 use lido_base::List;
 use std::alloc::{AllocError, Global};
-use tree_reader::{Element, FormFault, SumRule};
+use sum_trees::{Element, FormFault, SumRule};
 
 /// The job's text up to its tree.
 pub const SUM_JOB: &[u8] =

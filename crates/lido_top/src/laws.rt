@@ -1,8 +1,8 @@
 //! Laws about the definitions.
 ghost use Rattle.std.specs.Prelude.{◌++◌, ◌∷◌, [], ℕ, ℤ, List, codes, Ok};
-ghost use Rattle.tree_reader.specs.declared.form.SumRule.{SumRule};
-ghost use Rattle.tree_reader.specs.declared.form.TreeNode.{TreeNode};
-ghost use Rattle.tree_reader.specs.Trees.{IsTree};
+ghost use Rattle.sum_trees.specs.declared.form.SumRule.{SumRule};
+ghost use Rattle.sum_trees.specs.declared.form.TreeNode.{TreeNode};
+ghost use Rattle.sum_trees.specs.Trees.{IsTree};
 ghost use Rattle.lido_top.specs.declared.job.TheConstants.{SUM_JOB};
 ghost use Rattle.lido_top.specs.Sums.{IsOnlyAttribution};
 ghost use Rattle.lido_top.specs.Answer.{AnswerOf};

@@ -2,7 +2,7 @@
 ghost use Rattle.std.specs.Prelude.{◌≡◌, ◌<◌, ◌≤◌, string_bytes, length, IfErr};
 ghost use Rattle.lido_base.specs.Inputs.{most};
 ghost use Rattle.lido_base.specs.Phases.{Gives, OneOf};
-ghost use Rattle.tree_reader.specs.Trees.{IsReadable};
+ghost use Rattle.sum_trees.specs.Trees.{IsReadable};
 ghost use Rattle.order_report.specs.declared.status.Status.{Status};
 ghost use Rattle.lido_top.specs.Refusals.{IsRefusal};
 ghost use Rattle.lido_top.specs.Answer.{FirstPathOf, TextOf};
@@ -14,7 +14,7 @@ use crate::sums::evaluate;
 use lido_base::Strings;
 use order_report::Status;
 use std::alloc::{AllocError, Global};
-use tree_reader::{FormFault, SumRule, read_sum_tree};
+use sum_trees::{FormFault, SumRule, read_sum_tree};
 
 /// The decimal number of the first value.
 fn top_text(alloc: Global, values: &[i64]) -> Result<String, FormFault>

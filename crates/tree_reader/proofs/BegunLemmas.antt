@@ -7,13 +7,13 @@ use Rattle.lido_lexer.specs.Tokens.{IsName, IsQuoted}
 use Rattle.lido_lexer.proofs.Lists.{head_of, tail_of, no_bytes}
 use Rattle.std.proofs.lemmas.Bool.Decides.{nat_tests}
 use Rattle.lido_lexer.proofs.BytesLemmas.{unequal}
-use Rattle.tree_reader.specs.Bytes.{is_white, is_digit, is_minus, behind, said_after, minus}
+use Rattle.sum_trees.specs.Bytes.{is_white, is_digit, is_minus, behind, said_after, minus}
 use Rattle.tree_reader.specs.Language.{IsInt, IsFront, StandsAt, Spells, IsOneNode}
 use Rattle.tree_reader.specs.Scanning.{Begun}
 use Rattle.tree_reader.specs.declared.part.Part.{Part}
 use Rattle.tree_reader.specs.declared.part.Part.TheVariants as part
 use Rattle.tree_reader.specs.declared.scanner.Phase.TheVariants as phase
-use Rattle.tree_reader.proofs.FrontsOfBytes.{behind_skip, behind_stop, taken_more, taken_none}
+use Rattle.sum_trees.proofs.FrontsOfBytes.{behind_skip, behind_stop, taken_more, taken_none}
 
 first_of : {p q : Part} {ps qs : List Part} → p ∷ ps ≡ q ∷ qs → p ≡ q
 first_of e = cc

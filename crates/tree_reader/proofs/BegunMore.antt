@@ -9,14 +9,14 @@ use Rattle.lido_lexer.specs.Bytes.{is_octal, is_plain, octal_front, value_in}
 use Rattle.lido_lexer.specs.Tokens.{IsName, IsPart, plain, escape, octal, IsQuoted, escaped}
 use Rattle.lido_lexer.proofs.Lists.{head_of, tail_of}
 use Rattle.lido_lexer.proofs.PartsLemmas.{escape_part, octal_part, large_no_part, quote_no_part, one_part}
-use Rattle.tree_reader.specs.Bytes.{is_white, is_digit, is_letter, is_name_byte, behind, said_after, minus}
+use Rattle.sum_trees.specs.Bytes.{is_white, is_digit, is_letter, is_name_byte, behind, said_after, minus}
 use Rattle.tree_reader.specs.Language.{StandsAt, Spells}
 use Rattle.tree_reader.specs.Scanning.{Begun, signed, octal_after}
 use Rattle.tree_reader.specs.declared.part.Part.{Part}
 use Rattle.tree_reader.specs.declared.part.Part.TheVariants as part
 use Rattle.tree_reader.specs.declared.scanner.Phase.TheVariants as phase
-use Rattle.tree_reader.proofs.Said.{said_grows}
-use Rattle.tree_reader.proofs.FrontsOfBytes.{behind_skip, behind_stop, taken_more, taken_none}
+use Rattle.sum_trees.proofs.Said.{said_grows}
+use Rattle.sum_trees.proofs.FrontsOfBytes.{behind_skip, behind_stop, taken_more, taken_none}
 use Rattle.tree_reader.proofs.BegunLemmas.{Gives}
 
 -- ---- behind a bracket

@@ -7,14 +7,14 @@ use Rattle.std.proofs.lemmas.Bool.{and_parts, and_cases}
 use Rattle.std.proofs.lemmas.Bool.Decides.{nat_tests}
 use Rattle.lido_lexer.specs.Bytes.{is_octal, is_plain}
 use Rattle.lido_lexer.specs.Tokens.{escaped}
-use Rattle.tree_reader.specs.Bytes.{is_white, is_digit, is_letter, is_name_byte}
+use Rattle.sum_trees.specs.Bytes.{is_white, is_digit, is_letter, is_name_byte}
 use Rattle.tree_reader.specs.Language.{Spells}
 use Rattle.tree_reader.specs.Scanning.{Begun, Follows, Closes, Stands, CanStand, Moves, IsStuck, signed, deeper}
 use Rattle.tree_reader.specs.declared.part.Part.TheVariants as part
 use Rattle.tree_reader.specs.declared.scanner.Phase.{Phase}
 use Rattle.tree_reader.specs.declared.scanner.Phase.TheVariants as phase
 use Rattle.tree_reader.specs.declared.scanner.Scanner.{Scanner}
-use Rattle.tree_reader.proofs.FrontsOfBytes.{taken_none}
+use Rattle.sum_trees.proofs.FrontsOfBytes.{taken_none}
 use Rattle.tree_reader.proofs.BegunLemmas.{white_goes, open_goes, minus_goes, digit_goes, quote_goes, close_goes, nothing_starts, nothing_left, no_first}
 use Rattle.tree_reader.proofs.BegunMore.{opened_white, opened_letter, name_more, name_ends, minus_digit, digits_more, digits_too_many, digits_end, text_ends, text_slash, text_plain, text_stuck, escape_goes, octal_goes, octal_more, octal_too_large, octal_ends}
 use Rattle.tree_reader.proofs.MovesLemmas.{quiet, giving, again, begin_follows, int_follows, text_follows, end_follows}

@@ -3,7 +3,7 @@
 use Rattle.std.specs.Prelude.{◌≡◌, ◌+◌, ◌<◌, ℕ, ℤ, List, [], ◌∷◌, ◌++◌, length, FitsSigned}
 use Rattle.std.specs.Int.{w64}
 use Rattle.lido_lexer.specs.Tokens.{IsName, IsString}
-use Rattle.tree_reader.specs.Bytes.{is_white, is_digit, behind, unsigned, digits_at, number_at}
+use Rattle.sum_trees.specs.Bytes.{is_white, is_digit, behind, unsigned, digits_at, number_at}
 use Rattle.tree_reader.specs.declared.part.Part.{Part}
 use Rattle.tree_reader.specs.declared.part.Part.TheVariants as part
 

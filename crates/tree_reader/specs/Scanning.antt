@@ -6,7 +6,7 @@ use Rattle.lido_lexer.specs.Bytes.{is_octal}
 use Rattle.lido_lexer.specs.Tokens.{IsName, IsPart, IsQuoted}
 use Rattle.tree_store.specs.declared.fault.TreeFault.{TreeFault}
 use Rattle.tree_store.specs.declared.fault.TreeFault.TheVariants as fault
-use Rattle.tree_reader.specs.Bytes.{is_white, is_digit, is_name_byte, behind, said_after, minus}
+use Rattle.sum_trees.specs.Bytes.{is_white, is_digit, is_name_byte, behind, said_after, minus}
 use Rattle.tree_reader.specs.Language.{Forest, parts_of, IsOneNode, IsTreeOf, IsTreeText, StandsAt, Spells}
 use Rattle.tree_reader.specs.declared.part.Part.{Part}
 use Rattle.tree_reader.specs.declared.part.Part.TheVariants as part

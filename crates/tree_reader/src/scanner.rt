@@ -4,14 +4,14 @@ ghost use Rattle.std.specs.Int.{w64};
 ghost use Rattle.std.specs.Option.{SomeIff};
 ghost use Rattle.lido_base.specs.Phases.{Gives};
 ghost use Rattle.lido_lexer.specs.Bytes.{is_octal};
-ghost use Rattle.tree_reader.specs.Bytes.{is_white, is_name_byte};
+ghost use Rattle.sum_trees.specs.Bytes.{is_white, is_name_byte};
 ghost use Rattle.tree_reader.specs.Scanning.{Scanning, Moves, Refuses, HasScanned, IsShallow, Stands, deeper, signed, is_done};
 
 use crate::part::Part;
-use crate::scan::{is_digit, is_letter, is_white};
 use lido_base::List;
 use lido_lexer::{escaped, is_octal, is_plain};
 use std::alloc::{AllocError, Global};
+use sum_trees::{is_digit, is_letter, is_white};
 use tree_store::TreeFault;
 
 /// What of a part stands in front of the next byte.

@@ -4,7 +4,7 @@ use Rattle.std.proofs.lemmas.Bool.Decides.{Decides-eqb}
 use Rattle.std.proofs.lemmas.Slice.Eq.{starts_is}
 use Rattle.std.proofs.lemmas.List.{take_rest}
 use Rattle.lido_base.specs.Phases.{the_one, the_none}
-use Rattle.tree_reader.specs.declared.form.FormFault.TheVariants as fault
+use Rattle.sum_trees.specs.declared.form.FormFault.TheVariants as fault
 use Rattle.lido_top.specs.declared.job.TheConstants.{SUM_JOB}
 use Rattle.lido_top.specs.Job.{IsJob}
 use Rattle.lido_top.proofs.job.tree_part.Goals as goal

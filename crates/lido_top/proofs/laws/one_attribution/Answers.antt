@@ -1,4 +1,4 @@
-use Rattle.tree_reader.proofs.Order.{tree_preorder}
+use Rattle.sum_trees.proofs.Order.{tree_preorder}
 use Rattle.lido_top.proofs.SumsLemmas.{attribution_of}
 use Rattle.lido_top.proofs.laws.one_attribution.Goals as goal
 

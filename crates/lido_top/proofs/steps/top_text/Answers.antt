@@ -1,6 +1,6 @@
 use Rattle.std.proofs.Common.{◌∙◌, sym}
 use Rattle.lido_base.specs.Phases.{the_one}
-use Rattle.tree_reader.specs.declared.form.FormFault.TheVariants as fault
+use Rattle.sum_trees.specs.declared.form.FormFault.TheVariants as fault
 use Rattle.lido_top.specs.Steps.{IsTopText}
 use Rattle.lido_top.proofs.steps.top_text.Goals as goal
 

@@ -1,0 +1,9 @@
+pub mod Said
+pub mod Passing
+pub mod Pending
+pub mod Growth
+pub mod Paths
+pub mod Ends
+pub mod Order
+pub mod Faults
+pub mod FrontsOfBytes

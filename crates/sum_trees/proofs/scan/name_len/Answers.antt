@@ -1,0 +1,7 @@
+use Rattle.std.proofs.Common.{arith}
+use Rattle.sum_trees.specs.Bytes.{is_name_byte}
+use Rattle.sum_trees.proofs.Passing.{whole_front}
+use Rattle.sum_trees.proofs.scan.name_len.Goals as goal
+
+pub returns-clause-front : goal.returns-clause-front
+returns-clause-front c = whole_front is_name_byte c.args.bytes.now c.loop-i.i (omega arith) (omega arith) c.loop-i.invariant

@@ -1,0 +1,5 @@
+pub mod Bytes
+pub mod Marks
+pub mod Trees
+pub mod Fronts
+pub mod Steps

@@ -33,7 +33,7 @@ module _ {V : Type 0} where
   add_last (m ∷ t) n zero more is = absurd (omega (arith, is))
   add_last (m ∷ t) n (suc p) more is = ap (λ (l : Tree V). m ∷ l) (add_last t n p more (omega (arith, is)))
 
-  length-add_items : (t : Tree V) (p : ℕ) (more : List (Item V)) → length (add_items t p more) ≡ length t
+  pub length-add_items : (t : Tree V) (p : ℕ) (more : List (Item V)) → length (add_items t p more) ≡ length t
   length-add_items [] p more = refl
   length-add_items (n ∷ t) zero more = refl
   length-add_items (n ∷ t) (suc p) more = ap suc (length-add_items t p more)
@@ -53,7 +53,7 @@ module _ {V : Type 0} where
   places_with t p x less = ap length (items_of-with_item t p x less) ∙ omega (arith, length-append (items_of t p) (x ∷ []))
 
 module _ {S : Type 0} (g : Asked S) where
-  length-nodes : (n p k : ℕ) (f : Forest) → length (nodes g n p k f) ≡ count f
+  pub length-nodes : (n p k : ℕ) (f : Forest) → length (nodes g n p k f) ≡ count f
   length-nodes n p k none = refl
   length-nodes n p k (node at name_at name below end after) = omega (
     arith,
@@ -64,17 +64,17 @@ module _ {S : Type 0} (g : Asked S) where
   length-nodes n p k (int at value after) = length-nodes n p (suc k) after
   length-nodes n p k (string at text after) = length-nodes n p (suc k) after
 
-  fill_none : (t : Tree Plain) (p : ℕ) → fill g t p none ≡ t
+  pub fill_none : (t : Tree Plain) (p : ℕ) → fill g t p none ≡ t
   fill_none t p = append-nil (add_items t p []) ∙ add_none t p
 
-  fill_leaf : (t : Tree Plain) (p : ℕ) (v : Plain) (after : Forest) → p < length t
+  pub fill_leaf : (t : Tree Plain) (p : ℕ) (v : Plain) (after : Forest) → p < length t
       → add_items t p (Leaf v ∷ items g (length t) after) ++ nodes g (length t) p (suc (places t p)) after ≡ fill g (with_item t p (Leaf v)) p after
   fill_leaf t p v after less =
       ap (λ (l : Tree Plain). l ++ nodes g (length t) p (suc (places t p)) after) (sym (add_after t p (Leaf v) (items g (length t) after)))
       ∙ ap (λ (n : ℕ). add_items (with_item t p (Leaf v)) p (items g n after) ++ nodes g n p (suc (places t p)) after) (sym (length-with_item t p (Leaf v)))
       ∙ ap (λ (k : ℕ). add_items (with_item t p (Leaf v)) p (items g (length (with_item t p (Leaf v))) after) ++ nodes g (length (with_item t p (Leaf v))) p k after) (sym (places_with t p (Leaf v) less))
 
-  abbrev added : Tree Plain → ℕ → ℕ → Node Plain
+  abbrev pub added : Tree Plain → ℕ → ℕ → Node Plain
   added t p rule = record { rule = rule; parent = Some p; place = places t p + 1; items = [] }
 
   length-grown : (t : Tree Plain) (rule p : ℕ) → length (with_node t rule (Some p)) ≡ suc (length t)
@@ -91,7 +91,7 @@ module _ {S : Type 0} (g : Asked S) where
       (add_last (with_item t p (Child (length t))) (added t p rule) (length t) (items g (suc (length t)) below) (sym (length-with_item t p (Child (length t)))))
 
   -- what the table is when the node, what is below it, and the siblings behind it are there
-  fill_after : (t : Tree Plain) (rule p : ℕ) (below after : Forest) → p < length t
+  pub fill_after : (t : Tree Plain) (rule p : ℕ) (below after : Forest) → p < length t
       → fill g (fill g (with_node t rule (Some p)) (length t) below) p after
       ≡ add_items t p (Child (length t) ∷ items g (suc (length t + count below)) after)
       ++ (record (added t p rule) { items = items g (suc (length t)) below } ∷ (nodes g (suc (length t)) (length t) 0 below ++ nodes g (suc (length t + count below)) p (suc (places t p)) after))

@@ -202,7 +202,7 @@ inside_test : {X : Type 0} (p : X → Bool) (k j : ℕ) (xs : List X) (b : Bool)
 inside_test p k j xs true later e = let same_k : k ≡ j = held e in omega (arith, same_k)
 inside_test p k j xs false later e = omega (arith, later e)
 
-first_inside : {X : Type 0} (p : X → Bool) (k j : ℕ) (xs : List X) → first_from k p xs ≡ Some j → j < k + length xs
+pub first_inside : {X : Type 0} (p : X → Bool) (k j : ℕ) (xs : List X) → first_from k p xs ≡ Some j → j < k + length xs
 first_inside p k j [] e = absurd (none-some _ e)
 first_inside p k j (x ∷ xs) e = inside_test p k j xs (p x) (first_inside p (suc k) j xs) e
 

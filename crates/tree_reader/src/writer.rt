@@ -1,6 +1,8 @@
 //! The parts of a tree's text become its written tree, or its first fault.
 ghost use Rattle.std.specs.Prelude.{◌≡◌, ◌+◌, ◌-◌, ◌^◌, ◌<◌, ◌≤◌, ℕ, List, Option, None, Some, true, false, length, [], ◌∷◌, ◌++◌, option_to_list, Ok, Result, IfOk, OnOk, IfErr};
+ghost use Rattle.lido_base.specs.Phases.{Gives};
 ghost use Rattle.lido_base.specs.Texts.{IsDistinctTexts};
+ghost use Rattle.flat_grammar.specs.Fitting.{IsFitting};
 ghost use Rattle.lido_base.specs.Plain.{Plain, plain_tree};
 ghost use Rattle.lido_base.specs.Tree.{Tree as Table, IsTree, Leaf, places, with_item, with_node};
 ghost use Rattle.lido_base.specs.declared.value.Value.{Value as Terminal};
@@ -12,7 +14,8 @@ ghost use Rattle.tree_store.specs.Growth.{IsOpen};
 ghost use Rattle.tree_reader.specs.Asking.{IsNameTable, asked, shape_at};
 ghost use Rattle.tree_reader.specs.WrittenTrees.{Asked, node_fault, most_nodes, meaning};
 ghost use Rattle.tree_reader.specs.Language.{Forest, parts_of, IsOneNode};
-ghost use Rattle.tree_reader.specs.Writing.{RefusesIf, StopsAt, IsWritten, FailsAs, IsMeaning, MeansFault, IsFirst};
+ghost use Rattle.tree_reader.specs.Ints.{HasInt};
+ghost use Rattle.tree_reader.specs.Writing.{RefusesIf, StopsAt, IsWritten, FailsAs, IsMeaning, IsFirst};
 
 use crate::asking::{is_enough, may_be_node, may_be_root, may_be_value};
 use crate::names::{find_named, name_table};
@@ -333,6 +336,7 @@ fn write_part(
         → IsWritten (asked flat.now.symbols flat.now.rules flat.now.shapes flat.now.root texts) strings.old tree.old (length flat.now.shapes) most (Some parent) outer.old (part.now ∷ more) answer
         → FailsAs answer e) }
     ensures kept { Gains strings.old strings.new }
+    ensures int { OnOk result (HasInt part.now) }
     ensures few_nodes { OnOk result (length tree.new ≤ most_nodes) }
 {
     match part {
@@ -377,8 +381,8 @@ fn first_name(parts: &[Part]) -> (u32, &[u8], &[Part])
     }
 }
 
-/// The written tree of a text's parts. A fault is the first one from the left; `Memory` is want of memory. Texts that were in
-/// `strings` keep their ids whatever the answer.
+/// The written tree of a text's parts: what they mean, and it fits the grammar. A fault is the first one from the left; `Memory` is
+/// want of memory. Texts that were in `strings` keep their ids whatever the answer.
 pub fn write_tree(
     alloc: Global,
     flat: &Flat,
@@ -387,8 +391,10 @@ pub fn write_tree(
 ) -> Result<Tree, TreeFault>
     requires one { IsOneNode parts.now }
     requires few { length parts.now < 2 ^ 32 - 1 }
-    ensures tree { IfOk result (λ tree. IsMeaning (asked flat.now.symbols flat.now.rules flat.now.shapes flat.now.root strings.old) parts.now (Ok (plain_tree strings.new tree))) }
-    ensures refused { IfErr result (λ e. MeansFault (asked flat.now.symbols flat.now.rules flat.now.shapes flat.now.root strings.old) parts.now e) }
+    ensures gives { (later : List (List ℕ)) → Gains strings.new later
+        → Gives (plain_tree later) (IsMeaning (asked flat.now.symbols flat.now.rules flat.now.shapes flat.now.root strings.old) parts.now) TreeFault.Memory result }
+    ensures fits { IfOk result (λ tree. IsFitting flat.now.symbols flat.now.rules flat.now.shapes flat.now.root (plain_tree strings.new tree)) }
+    ensures few_nodes { IfOk result (λ tree. length tree ≤ most_nodes) }
     ensures kept { Gains strings.old strings.new }
 {
     let Ok(names) = name_table(alloc, flat, strings.len()) else {

@@ -1,22 +1,26 @@
-use Rattle.std.proofs.Common.{ap, arith, ◌+◌, drop, length}
+use Rattle.std.proofs.Common.{ap, arith, ◌+◌, drop, length, Ok}
 use Rattle.lido_lexer.proofs.Reading.{gains_none, gains_more}
 use Rattle.tree_reader.specs.Asking.{asked}
 use Rattle.tree_reader.specs.WrittenTrees.{meaning}
-use Rattle.tree_reader.proofs.Written.{all_written, next_part, no_more_parts, means}
+use Rattle.lido_base.specs.Plain.{plain_tree}
+use Rattle.tree_reader.proofs.Written.{all_written, next_part, no_more_parts, means, written_grown}
+use Rattle.tree_reader.proofs.OneForest.{gives_fault, the_meaning}
+use Rattle.tree_reader.proofs.IntsLemmas.{one_more, all_have, below_first}
+use Rattle.tree_reader.proofs.ReadFits.{read_fits}
 use Rattle.tree_reader.proofs.writer.write_tree.Goals as goal
 
-pub returns-in-Err-clause-refused : goal.returns-in-Err-clause-refused
-returns-in-Err-clause-refused c =
+pub returns-in-Err-clause-gives : goal.returns-in-Err-clause-gives
+returns-in-Err-clause-gives c = λ later gains.
     let (at, below, end, is, rest) = c.first_name-name_at.ensures in
-    means (asked c.args.flat.now.symbols c.args.flat.now.rules c.args.flat.now.shapes c.args.flat.now.root c.args.strings.now) c.args.parts.now at c.first_name-name_at.result.0 c.first_name-name_at.result.1.now below end c.in-Err.e is
-    (c.in-Err.ensures.refused c.args.strings.now (gains_none c.args.strings.now) (omega (arith, ap length c.as_slice-names.ensures.value, c.in-Ok.ensures.each, c.len.ensures.count)) below end)
+    gives_fault (asked c.args.flat.now.symbols c.args.flat.now.rules c.args.flat.now.shapes c.args.flat.now.root c.args.strings.now) c.args.parts.now c.in-Err.e (means (asked c.args.flat.now.symbols c.args.flat.now.rules c.args.flat.now.shapes c.args.flat.now.root c.args.strings.now) c.args.parts.now at c.first_name-name_at.result.0 c.first_name-name_at.result.1.now below end c.in-Err.e is
+    (c.in-Err.ensures.refused c.args.strings.now (gains_none c.args.strings.now) (omega (arith, ap length c.as_slice-names.ensures.value, c.in-Ok.ensures.each, c.len.ensures.count)) below end))
 
-pub returns-in-Err-write_part-clause-refused : goal.returns-in-Err-write_part-clause-refused
-returns-in-Err-write_part-clause-refused c =
+pub returns-in-Err-write_part-clause-gives : goal.returns-in-Err-write_part-clause-gives
+returns-in-Err-write_part-clause-gives c = λ later gains.
     let (at, name_at, name, below, end, is, written) = c.loop-part.invariant.written in
-    means (asked c.args.flat.now.symbols c.args.flat.now.rules c.args.flat.now.shapes c.args.flat.now.root c.args.strings.now) c.args.parts.now at name_at name below end c.in-Err-write_part.e is
+    gives_fault (asked c.args.flat.now.symbols c.args.flat.now.rules c.args.flat.now.shapes c.args.flat.now.root c.args.strings.now) c.args.parts.now c.in-Err-write_part.e (means (asked c.args.flat.now.symbols c.args.flat.now.rules c.args.flat.now.shapes c.args.flat.now.root c.args.strings.now) c.args.parts.now at name_at name below end c.in-Err-write_part.e is
     (c.in-Err-write_part.ensures.refused c.args.strings.now c.loop-part.invariant.kept (omega (arith, ap length c.as_slice-names.ensures.value, c.in-Ok.ensures.each, c.len.ensures.count)) c.loop-part.part-index (drop (c.loop-part.part-index + 1) c.first_name-name_at.result.2.now) (meaning (asked c.args.flat.now.symbols c.args.flat.now.rules c.args.flat.now.shapes c.args.flat.now.root c.args.strings.now) name_at name below end)
-    (next_part c.first_name-name_at.result.2.now c.loop-part.part-index c.part-item.result c.in-Some.parent (omega arith) c.part-item.is c.in-Some.is written))
+    (next_part c.first_name-name_at.result.2.now c.loop-part.part-index c.part-item.result c.in-Some.parent (omega arith) c.part-item.is c.in-Some.is written)))
 
 pub loop-part-preserved : goal.loop-part-preserved
 loop-part-preserved c =
@@ -32,11 +36,22 @@ loop-part-preserved c =
         c.in-Ok-write_part.ensures.goes c.args.strings.now c.loop-part.invariant.kept (omega (arith, ap length c.as_slice-names.ensures.value, c.in-Ok.ensures.each, c.len.ensures.count)) c.loop-part.part-index (drop (c.loop-part.part-index + 1) c.first_name-name_at.result.2.now) (meaning (asked c.args.flat.now.symbols c.args.flat.now.rules c.args.flat.now.shapes c.args.flat.now.root c.args.strings.now) name_at name below end)
             (next_part c.first_name-name_at.result.2.now c.loop-part.part-index c.part-item.result c.in-Some.parent (omega arith) c.part-item.is c.in-Some.is written),
       );
+      ints = one_more c.loop-part.part-index c.first_name-name_at.result.2.now c.part-item.result (omega arith) c.part-item.is c.in-Ok-write_part.ensures.int c.loop-part.invariant.ints;
       few_nodes = c.in-Ok-write_part.ensures.few_nodes;
       kept = gains_more c.loop-part.invariant.kept c.write_part.ensures.kept;
     }
 
-pub returns-clause-tree : goal.returns-clause-tree
-returns-clause-tree c =
+pub returns-clause-gives : goal.returns-clause-gives
+returns-clause-gives c = λ later gains.
     let (at, name_at, name, below, end, is, written) = c.loop-part.invariant.written in
-    (at, name_at, name, below, end, is, all_written (no_more_parts c.first_name-name_at.result.2.now c.loop-part.part-index (omega arith) written))
+    the_meaning (asked c.args.flat.now.symbols c.args.flat.now.rules c.args.flat.now.shapes c.args.flat.now.root c.args.strings.now) c.args.parts.now (Ok (plain_tree later c.loop-part.tree))
+    (at, name_at, name, below, end, is, all_written (written_grown gains (no_more_parts c.first_name-name_at.result.2.now c.loop-part.part-index (omega arith) written)))
+
+pub returns-clause-fits : goal.returns-clause-fits
+returns-clause-fits c =
+    let (at, name_at, name, below, end, is, written) = c.loop-part.invariant.written in
+    read_fits c.args.flat.now.symbols c.args.flat.now.rules c.args.flat.now.shapes c.args.flat.now.root c.args.strings.now c.args.flat.now.well_formed name_at name below end
+    (plain_tree c.loop-part.strings c.loop-part.tree)
+    (below_first c.args.parts.now at name_at name below end c.first_name-name_at.result.0 c.first_name-name_at.result.1.now c.first_name-name_at.result.2.now is c.first_name-name_at.ensures
+        (all_have c.loop-part.part-index c.first_name-name_at.result.2.now (omega arith) c.loop-part.invariant.ints))
+    (all_written (no_more_parts c.first_name-name_at.result.2.now c.loop-part.part-index (omega arith) written))

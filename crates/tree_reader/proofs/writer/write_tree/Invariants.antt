@@ -1,4 +1,5 @@
-use Rattle.std.proofs.Common.{◌≡◌, ◌≤◌, ℕ, List, drop, length}
+use Rattle.std.proofs.Common.{◌≡◌, ◌≤◌, ℕ, List, drop, take, length}
+use Rattle.tree_reader.specs.Ints.{HaveInts}
 use Rattle.lido_lexer.specs.Lexing.{Gains}
 use Rattle.tree_reader.specs.Language.{Forest, node, none, parts_of}
 use Rattle.tree_reader.specs.Asking.{asked}
@@ -11,6 +12,7 @@ invariant-loop-part l = record {
   written : (at : ℕ) × (name_at : ℕ) × (name : List ℕ) × (below : Forest) × (end : ℕ) × (l.parts ≡ parts_of (node at name_at name below end none))
       × IsWritten (asked l.flat.symbols l.flat.rules l.flat.shapes l.flat.root l.fn.strings) l.strings l.tree (length l.flat.shapes) l.part-index l.current l.outer (drop l.part-index l.rest)
       (meaning (asked l.flat.symbols l.flat.rules l.flat.shapes l.flat.root l.fn.strings) name_at name below end);
+  ints : HaveInts (take l.part-index l.rest);
   few_nodes : length l.tree ≤ most_nodes;
   kept : Gains l.fn.strings l.strings;
 }

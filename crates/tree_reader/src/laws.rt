@@ -1,0 +1,31 @@
+//! Laws of written trees: functions that do nothing, whose contracts are the laws.
+ghost use Rattle.std.specs.Prelude.{◌≡◌, ◌≤◌, ℕ, List, Ok, length};
+ghost use Rattle.lido_base.specs.Plain.{Plain};
+ghost use Rattle.lido_base.specs.Texts.{IsDistinctTexts};
+ghost use Rattle.lido_base.specs.Tree.{Tree};
+ghost use Rattle.lido_base.specs.declared.ids.SymId.{SymId as Symbol};
+ghost use Rattle.flat_grammar.specs.declared.flat.FlatSymbol.{FlatSymbol};
+ghost use Rattle.flat_grammar.specs.declared.flat.FlatRule.{FlatRule};
+ghost use Rattle.flat_grammar.specs.declared.flat.Shape.{Shape};
+ghost use Rattle.flat_grammar.specs.WellFormed.{IsWellFormed};
+ghost use Rattle.flat_grammar.specs.Fitting.{IsFitting};
+ghost use Rattle.tree_reader.specs.Language.{Forest};
+ghost use Rattle.tree_reader.specs.Asking.{asked};
+ghost use Rattle.tree_reader.specs.WrittenTrees.{meaning, most_nodes};
+ghost use Rattle.tree_reader.specs.WrittenAs.{IsWrittenAs};
+ghost use Rattle.tree_reader.specs.Ints.{HasInts};
+
+/// A tree that a text means fits the grammar.
+pub fn what_is_read_fits()
+    ensures { (symbols : List FlatSymbol) (rules : List FlatRule) (shapes : List Shape) (root : Symbol) (texts : List (List ℕ))
+        → IsWellFormed symbols rules shapes root → (name_at : ℕ) (name : List ℕ) (below : Forest) (end : ℕ) (t : Tree Plain) → HasInts below
+        → meaning (asked symbols rules shapes root texts) name_at name below end ≡ Ok t → IsFitting symbols rules shapes root t }
+{}
+
+/// A tree that fits the grammar, has no more nodes than a written tree may have, and is written in brackets with the names of its rules,
+/// is what that text means.
+pub fn what_fits_is_read()
+    ensures { (symbols : List FlatSymbol) (rules : List FlatRule) (shapes : List Shape) (root : Symbol) (texts : List (List ℕ))
+        → IsWellFormed symbols rules shapes root → IsDistinctTexts texts → (t : Tree Plain) → IsFitting symbols rules shapes root t → (name_at : ℕ) (name : List ℕ) (below : Forest) (end : ℕ)
+        → length t ≤ most_nodes → IsWrittenAs rules texts t name below → meaning (asked symbols rules shapes root texts) name_at name below end ≡ Ok t }
+{}

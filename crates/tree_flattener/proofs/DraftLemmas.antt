@@ -19,7 +19,7 @@ use Rattle.tree_store.specs.Growth.{IsOpen}
 use Rattle.tree_store.proofs.GrowthLemmas.{get_before, get_last}
 use Rattle.tree_store.proofs.OpenLemmas.{open_upwards}
 use Rattle.tree_flattener.specs.Drafts.{Table, IsOnPath, Grows, Suits, IsUpToAs, IsWholeAs, IsUpTo, IsWhole, IsNumbered, IsDraft, IsAttached, IsClosed}
-use Rattle.tree_flattener.proofs.PathLemmas.{above_self, parent_above, above_parent, above_before, path_up, before_up, behind_up, child_parent, with_parent_inside, on_path_before}
+use Rattle.tree_flattener.proofs.PathLemmas.{above_self, parent_above, above_parent, above_before, path_up, before_up, behind_up, child_parent, with_parent_inside, on_path_before, place_inside}
 use Rattle.tree_flattener.proofs.GrowLemmas.{stands_grows, stands_before, up_to_grows, whole_grows, some_same}
 use Rattle.tree_flattener.proofs.ItemLemmas.{there}
 
@@ -131,6 +131,7 @@ module _ (symbols : List FlatSymbol) (rules : List FlatRule) (shapes : List Shap
       few = omega (arith, d.few, a.few, ap length (ancestors-child W suits.tree n m up));
       before = λ k c e h. none k c e h;
       behind = λ k c e h. let l = parent_before W suits.tree c n (child_parent W suits.tree n k c e) in omega (arith, is_next);
+      reach = omega arith;
       open_tail = a.open_new;
       top = attached_top;
       edges = attached_edges;
@@ -151,7 +152,7 @@ module _ (symbols : List FlatSymbol) (rules : List FlatRule) (shapes : List Shap
             onto (inr above) = above_parent W suits.tree n m w up above
 
   module _ (G : Table) (more : List ℕ) (a : IsClosed symbols rules shapes W F node_of flat_of G more m) where
-    closed_numbered : IsNumbered symbols rules shapes W G more flat_of
+    pub closed_numbered : IsNumbered symbols rules shapes W G more flat_of
     closed_numbered = record {
       tree = a.tree;
       each_node = a.each_node;
@@ -185,6 +186,7 @@ module _ (symbols : List FlatSymbol) (rules : List FlatRule) (shapes : List Shap
       few = omega (arith, d.few, a.few, ap length (ancestors-child W suits.tree m p up));
       before = λ k c e h. let b = before_up W suits.tree d.last.0 m p d.last.2 up k c e h in omega (arith, d.last.1);
       behind = λ k c e h. let b = behind_up W suits.tree d.last.0 m p d.last.2 up k c e h in omega (arith, d.last.1);
+      reach = place_inside W suits.tree m p up;
       open_tail = open_upwards G a.tree f t (a.open_node f at) link;
       top = edges m p f t (inl refl) up at link;
       edges = λ q w g s on. edges q w g s (higher q on);

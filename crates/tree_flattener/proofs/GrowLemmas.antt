@@ -15,7 +15,7 @@ use Rattle.tree_store.proofs.GrowthLemmas.{get_before, get_last, length-with_ite
 use Rattle.tree_store.proofs.OpenLemmas.{open_added, open_parent, open_kept}
 use Rattle.tree_flattener.specs.Drafts.{Table, Grows, Fills, IsCellOf, IsChain, IsUpToAs, IsWholeAs}
 
-rule_at-with_item : (t : Table) (p : ℕ) (x : Item Value) (n : ℕ) → rule_at (with_item t p x) n ≡ rule_at t n
+pub rule_at-with_item : (t : Table) (p : ℕ) (x : Item Value) (n : ℕ) → rule_at (with_item t p x) n ≡ rule_at t n
 rule_at-with_item [] p x n = refl
 rule_at-with_item (node ∷ t) zero x zero = refl
 rule_at-with_item (node ∷ t) zero x (suc n) = refl

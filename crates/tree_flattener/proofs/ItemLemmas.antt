@@ -1,19 +1,21 @@
 -- The items of a node from the last child on up to the next one.
 use Rattle.std.specs.Prelude.{slice_get, take, filter_map}
-use Rattle.std.proofs.Common.{◌≡◌, ℕ, zero, suc, ◌+◌, ◌<◌, ◌≤◌, ◌⊎◌, inl, inr, List, [], ◌∷◌, ◌++◌, length, Option, Some, None, refl, ap, sym, subst, ◌∙◌, arith, add-one}
+use Rattle.std.proofs.Common.{◌≡◌, ℕ, zero, suc, ◌+◌, ◌<◌, ◌≤◌, ◌⊎◌, inl, inr, List, [], ◌∷◌, ◌++◌, length, Option, Some, None, refl, ap, sym, subst, ◌∙◌, arith, add-one, length-append}
 use Rattle.std.proofs.Math.Nat.{eq-or-lt_of_le}
 use Rattle.std.proofs.Math.Seq.{take-length}
 use Rattle.std.proofs.lemmas.Bool.{cases_lt}
 use Rattle.std.proofs.lemmas.List.Elements.{filter_map-append}
 use Rattle.std.proofs.lemmas.Option.{slice_get_within}
 use Rattle.lido_base.specs.declared.value.Value.{Value}
-use Rattle.lido_base.specs.Tree.{Tree, Item, Child, Leaf, IsTree, child_number, parent_of, place_of, items_of, item_at, children}
+use Rattle.lido_base.specs.Tree.{Tree, Item, Child, Leaf, IsTree, child_number, parent_of, place_of, items_of, item_at, children, with_item, rule_at}
 use Rattle.flat_grammar.specs.declared.flat.FlatSymbol.{FlatSymbol}
 use Rattle.flat_grammar.specs.declared.flat.FlatRule.{FlatRule}
 use Rattle.flat_grammar.specs.declared.flat.Shape.{Shape}
-use Rattle.flat_grammar.specs.FlatTrees.{AreItems}
+use Rattle.flat_grammar.specs.FlatTrees.{AreItems, StandsFor}
 use Rattle.tree_store.specs.Growth.{IsTerminal}
-use Rattle.tree_flattener.specs.Drafts.{Table}
+use Rattle.tree_store.proofs.GrowthLemmas.{items_of-with_item}
+use Rattle.tree_flattener.proofs.GrowLemmas.{rule_at-with_item}
+use Rattle.tree_flattener.specs.Drafts.{Table, Fills}
 use Rattle.tree_flattener.proofs.PathLemmas.{ascending, own_item}
 
 pub there : {X : Type 0} (xs : List X) (k : ℕ) → k < length xs → (x : X) × (slice_get xs k ≡ Some x)
@@ -34,6 +36,12 @@ take_all [] zero h = refl
 take_all [] (suc k) h = refl
 take_all (x ∷ xs) zero h = absurd (omega arith)
 take_all (x ∷ xs) (suc k) h = ap (λ z. x ∷ z) (take_all xs k (omega arith))
+
+pub take_short : {X : Type 0} (xs : List X) (k : ℕ) → length (take k xs) ≤ k
+take_short [] zero = omega arith
+take_short [] (suc k) = omega arith
+take_short (x ∷ xs) zero = omega arith
+take_short (x ∷ xs) (suc k) = let h = take_short xs k in omega arith
 
 pub take_none : {X : Type 0} (xs : List X) → take 0 xs ≡ []
 take_none xs = refl
@@ -58,6 +66,32 @@ module _ (symbols : List FlatSymbol) (rules : List FlatRule) (shapes : List Shap
   items_length (Leaf v ∷ is) [] h = absurd h
   items_length (Child n ∷ is) (Leaf u ∷ ws) h = absurd h
   items_length (Leaf v ∷ is) (Child w ∷ ws) h = absurd h
+
+  -- the items stand for each other also where more is known to stand for something
+  pub items_along : (G : Table) (more : List ℕ) → ((n w : ℕ) → StandsFor symbols rules shapes W F node_of n w → StandsFor symbols rules shapes W G more n w)
+      → (is ws : List (Item Value)) → AreItems symbols rules shapes W F node_of is ws → AreItems symbols rules shapes W G more is ws
+  items_along G more f [] [] h = tt
+  items_along G more f (Child n ∷ is) (Child w ∷ ws) (s, h) = (f n w s, items_along G more f is ws h)
+  items_along G more f (Leaf v ∷ is) (Leaf u ∷ ws) (e, h) = (e, items_along G more f is ws h)
+  items_along G more f [] (x ∷ ws) h = absurd h
+  items_along G more f (Child n ∷ is) [] h = absurd h
+  items_along G more f (Leaf v ∷ is) [] h = absurd h
+  items_along G more f (Child n ∷ is) (Leaf u ∷ ws) h = absurd h
+  items_along G more f (Leaf v ∷ is) (Child w ∷ ws) h = absurd h
+
+  -- one more terminal on both sides
+  pub leaf_more : (p : ℕ) (u : Value) (G : Table) → G ≡ with_item F p (Leaf u) → p < length F → (xs : List (Item Value)) (k : ℕ) → slice_get xs k ≡ Some (Leaf u)
+      → AreItems symbols rules shapes W F node_of (items_of F p) (take k xs) → AreItems symbols rules shapes W G node_of (items_of G p) (take (k + 1) xs)
+  leaf_more p u G e inside xs k at h = subst (λ is. AreItems symbols rules shapes W G node_of is (take (k + 1) xs)) (sym (ap (λ g. items_of g p) e ∙ items_of-with_item F p (Leaf u) inside))
+      (subst (λ ws. AreItems symbols rules shapes W G node_of (items_of F p ++ Leaf u ∷ []) ws) (sym (ap (λ i. take i xs) (add-one k) ∙ take_next xs k (Leaf u) at))
+      (items_along G node_of stands (items_of F p ++ Leaf u ∷ []) (take k xs ++ Leaf u ∷ []) (items_append (items_of F p) (take k xs) (Leaf u ∷ []) (Leaf u ∷ []) h (refl, tt))))
+    where
+      stands : (n w : ℕ) → StandsFor symbols rules shapes W F node_of n w → StandsFor symbols rules shapes W G node_of n w
+      stands n w (plain, of) = (λ cell. plain (cell.0, (cell.1.0, sym (ap (λ g. rule_at g n) e ∙ rule_at-with_item F p (Leaf u) n) ∙ cell.1.1, cell.1.2), cell.2), of)
+
+  -- a node has one item more
+  pub places_more : (p : ℕ) (x : Item Value) (G : Table) → G ≡ with_item F p x → p < length F → length (items_of G p) ≡ length (items_of F p) + 1
+  places_more p x G e inside = ap length (ap (λ g. items_of g p) e ∙ items_of-with_item F p x inside) ∙ length-append (items_of F p) (x ∷ [])
 
 module _ (W : Table) (m v done : ℕ)
     (before : (k c : ℕ) → item_at W m k ≡ Some (Child c) → k ≤ done → c < v) (behind : (k c : ℕ) → item_at W m k ≡ Some (Child c) → done < k → v ≤ c) where

@@ -4,11 +4,12 @@ use Rattle.std.proofs.Common.{◌≡◌, ℕ, zero, suc, ◌+◌, ◌<◌, ◌�
 use Rattle.std.proofs.lemmas.Bool.{cases_lt}
 use Rattle.std.proofs.Math.Nat.{eq-or-lt_of_le}
 use Rattle.std.proofs.lemmas.List.Kept.{AllPairs-from_increasing}
+use Rattle.std.proofs.lemmas.Option.{slice_get_within}
 use Rattle.lido_base.specs.Tree.{Tree, Item, Child, Leaf, IsTree, child_number, parent_of, place_of, items_of, item_at, children, ancestors, contains, continues, is_just}
 use Rattle.lido_base.proofs.EquationsLemmas.{contains-later}
 use Rattle.lido_base.proofs.TreeLemmas.{children_behind, parent_before, ancestors-root, ancestors-child, contains-cons, contains-test, test-contains, both, either, is_just-some}
 use Rattle.tree_store.proofs.GrowthLemmas.{Contains-child}
-use Rattle.tree_store.proofs.ReadingLemmas.{child_of_parent}
+use Rattle.tree_store.proofs.ReadingLemmas.{child_of_parent, parent_there}
 use Rattle.tree_flattener.specs.Drafts.{Table, IsOnPath}
 
 -- each number is below all later ones
@@ -130,6 +131,14 @@ module _ (W : Table) (tree : IsTree W) where
   pub own_item : (m p : ℕ) → parent_of W m ≡ Some p → item_at W p (place_of W m) ≡ Some (Child m)
   own_item m p e = let at = child_of_parent W tree m p (with_parent_inside W m p e) e in subst (λ k. item_at W p k ≡ Some (Child m)) (sym (tree.places_agree p at.0 m at.1)) at.1
 
+  -- and within its parent's items
+  pub place_inside : (m p : ℕ) → parent_of W m ≡ Some p → place_of W m ≤ length (items_of W p)
+  place_inside m p e = go (place_of W m) (own_item m p e)
+    where
+      go : (k : ℕ) → item_at W p k ≡ Some (Child m) → k ≤ length (items_of W p)
+      go zero at = cc
+      go (suc k) at = let h = slice_get_within (items_of W p) k (Child m) at in omega arith
+
   pub on_path_before : (l m : ℕ) → IsOnPath W l m → m ≤ l
   on_path_before l m (inl same) = omega arith
   on_path_before l m (inr above) = let h = above_before l m above in omega arith
@@ -185,3 +194,16 @@ module _ (W : Table) (tree : IsTree W) where
       go : (c < suc l) ⊎ (suc l ≤ c) → c < suc l
       go (inl h) = h
       go (inr h) = absurd (not_inside (above_self (suc l) p m up (between c m (suc l) (parent_above c m (child_parent m k c e)) (omega (arith, low)) h)))
+
+  root_on_path_by : (k n : ℕ) → n ≤ k → n < length W → IsOnPath W n 0
+  root_on_path_by k zero b h = inl refl
+  root_on_path_by zero (suc n) b h = absurd (omega arith)
+  root_on_path_by (suc k) (suc n) b h = let up = parent_there W tree n (omega arith) in let e : parent_of W (suc n) ≡ Some up.0 = rw add-one at up.1 in let before = parent_before W tree (suc n) up.0 e in go up.0 e (root_on_path_by k up.0 (omega arith) (omega arith))
+    where
+      go : (p : ℕ) → parent_of W (suc n) ≡ Some p → IsOnPath W p 0 → IsOnPath W (suc n) 0
+      go p e (inl same) = inr (subst (Contains (ancestors W (suc n))) (sym same) (parent_above (suc n) p e))
+      go p e (inr above) = inr (above_parent (suc n) p 0 e above)
+
+  -- the root is on each path
+  pub root_on_path : (n : ℕ) → n < length W → IsOnPath W n 0
+  root_on_path n h = root_on_path_by n n (omega arith) h

@@ -23,7 +23,7 @@ use Rattle.tree_flattener.specs.Drafts.{Table, IsOnPath, Grows, Fills, Suits, Is
 use Rattle.tree_flattener.proofs.PathLemmas.{with_parent_inside, on_path_before, child_parent, above_before}
 use Rattle.tree_flattener.proofs.GrowLemmas.{Adds, adds, adds_grows, grows_on, fills_grow, items_grow, some_same}
 use Rattle.tree_flattener.proofs.ChainLemmas.{chain_last, chain_open, chain_more, chain_end}
-use Rattle.tree_flattener.proofs.ItemLemmas.{there, take_next, take_all, items_append, items_length, rest_terminals, rest_empty, next_behind, next_item, next_element}
+use Rattle.tree_flattener.proofs.ItemLemmas.{there, take_next, take_all, take_short, items_append, items_length, rest_terminals, rest_empty, next_behind, next_item, next_element}
 use Rattle.tree_flattener.proofs.DraftLemmas.{get_new}
 
 not_both : (b : Bool) → b ≡ false → IsTrue b → ⊥
@@ -224,6 +224,9 @@ module _ (symbols : List FlatSymbol) (rules : List FlatRule) (shapes : List Shap
       pub items_of_tail : AreItems symbols rules shapes W F node_of (items_of F tail) (take done (items_of W m))
       items_of_tail = let h = up_to flat_m.0 flat_m.1 in subst (λ z. AreItems symbols rules shapes W F node_of (items_of F z) (take done (items_of W m))) (sym h.0) h.1
 
+      pub few_at_tail : places F tail ≤ done
+      few_at_tail = omega (arith, items_length symbols rules shapes W F node_of (items_of F tail) (take done (items_of W m)) items_of_tail, take_short (items_of W m) done)
+
       pub tail_of_plain : slice_get node_of tail ≡ Some m
       tail_of_plain = ap (slice_get node_of) (up_to flat_m.0 flat_m.1).0 ∙ of_m flat_m.0 flat_m.1
 
@@ -312,6 +315,7 @@ module _ (symbols : List FlatSymbol) (rules : List FlatRule) (shapes : List Shap
     few = few;
     before = λ k c at h. none k c at h;
     behind = λ k c at h. let l = child_behind 0 k c at in omega arith;
+    reach = omega arith;
     open_tail = open_root;
     top = λ shape f among is at. top shape.list (cell_of symbols rules shape) f at;
     edges = λ q w f t path up. absurd (no_parent q w path up);

@@ -10,10 +10,16 @@ use Rattle.flat_grammar.specs.Rules.{HasRule}
 use Rattle.flat_grammar.specs.WellFormed.{cell_of}
 use Rattle.flat_grammar.specs.FlatTrees.{StandsFor, AreItems, AreCells, is_cell}
 use Rattle.tree_store.specs.Growth.{IsOpen}
+use Rattle.tree_flattener.specs.declared.draft.Draft.{Draft}
+use Rattle.tree_flattener.specs.declared.draft.Spot.{Spot}
 
 -- a tree of stored values
 abbrev pub Table : Type 0
 Table = Tree Value
+
+-- the most nodes that a written tree may have
+abbrev pub most_nodes : ℕ
+most_nodes = 1048576
 
 -- q is the node or one of its ancestors
 abbrev pub IsOnPath : Table → ℕ → ℕ → Type 0
@@ -101,6 +107,7 @@ module _ (symbols : List FlatSymbol) (rules : List FlatRule) (shapes : List Shap
         pub few : length F + suc (length (ancestors W node)) ≤ 3 * v
         pub before : (k c : ℕ) → item_at W node k ≡ Some (Child c) → k ≤ done → c < v
         pub behind : (k c : ℕ) → item_at W node k ≡ Some (Child c) → done < k → v ≤ c
+        pub reach : done ≤ length (items_of W node)
         pub open_tail : IsOpen F tail
         pub top : IsUpTo node done tail
         pub edges : (q w f t : ℕ) → IsOnPath W node q → parent_of W q ≡ Some w → slice_get flat_of q ≡ Some f → parent_of F f ≡ Some t → IsUpTo w (place_of W q) t
@@ -131,3 +138,14 @@ module _ (symbols : List FlatSymbol) (rules : List FlatRule) (shapes : List Shap
     pub inside : (k w : ℕ) → length F ≤ k → slice_get more k ≡ Some w → w ≡ m
     pub whole : IsWhole G more flat_of m
     pub open_node : (f : ℕ) → slice_get flat_of m ≡ Some f → IsOpen G f
+
+  -- the draft of a tree that suits the grammar, with the spot at one of its nodes
+  pub record IsWalk (state : Draft) (at : Spot) : Type 0 where
+    pub suits : Suits
+    pub few : length W ≤ most_nodes
+    pub within : length state.flat_of ≤ length W
+    pub draft : IsDraft state.flat state.node_of state.flat_of (length state.flat_of) at.node at.tail at.done
+
+  -- the shapes of node m have this quality
+  abbrev pub HasForm : (Shape → Type 0) → ℕ → Type 0
+  HasForm P m = (shape : Shape) → Contains shapes shape → rule_at W m ≡ Some shape.rule.0 → P shape

@@ -3,3 +3,5 @@
 
 mod draft;
 mod forms;
+mod terminals;
+mod walk;

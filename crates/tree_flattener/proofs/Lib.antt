@@ -1,0 +1,9 @@
+pub mod ChainLemmas
+pub mod ClimbLemmas
+pub mod DraftLemmas
+pub mod FormLemmas
+pub mod GrowLemmas
+pub mod ItemLemmas
+pub mod PathLemmas
+pub mod StepLemmas
+pub mod WalkLemmas

@@ -10,5 +10,6 @@ pub mod CrossedUses
 pub mod LateInheritedVisits
 pub mod LateInheritedConstruction
 pub mod PlainGrammars
+pub mod OneArgument
 pub mod FaultyItems
 pub mod LateInheritedRows

@@ -1,2 +1,1 @@
 pub mod LateOrder
-pub mod OneArgument

@@ -2,10 +2,12 @@
 --
 --   RULE rTop: Top ::= Block END;
 --   RULE rBlock: Block LISTOF Block | Item END;
---   RULE rPair: Item ::= Num Word END;
+--   RULE rP: Item ::= Num Word END;
 --   RULE rRich: Item ::= 'rich' END;
+--   RULE rD: Item ::= 'deep' Item END;
 --
--- Each element of a list brings five instances: three of an Item, two of its cell. A rich Item has 32 text cells, a pair none.
+-- Top and Block have one attribute each, Item and the list's cell two. So an Item in a list brings four instances, and a Block without
+-- elements five: its own, those of its end cell and those of the cell it stands in. A rich Item has 32 text cells, nothing else any.
 use Rattle.std.specs.Prelude.{ℕ, List, [], ◌∷◌, Option, Some, None, true, false}
 use Rattle.lido_base.specs.declared.kinds.Kind.TheVariants.{Synthesized}
 use Rattle.lido_base.specs.declared.value.Value.TheVariants as value
@@ -34,7 +36,7 @@ abbrev pub symbols : List FlatSymbol
 symbols =
     named 0 None (attribute 6 ∷ [])
     ∷ named 1 None (attribute 7 ∷ [])
-    ∷ named 2 None (attribute 8 ∷ attribute 9 ∷ attribute 10 ∷ [])
+    ∷ named 2 None (attribute 8 ∷ attribute 9 ∷ [])
     ∷ named 3 (Some type.Int) []
     ∷ named 4 (Some type.Str) []
     ∷ named 5 None (attribute 8 ∷ attribute 9 ∷ [])
@@ -64,32 +66,36 @@ abbrev pub named_rule : ℕ → SymId → List SymId → List FlatComp → FlatR
 named_rule name left right comps = record { name = record { 0 = name }; left = left; right = right; comps = comps }
 
 abbrev pub top_rule : FlatRule
-top_rule = named_rule 12 (symbol 0) (symbol 1 ∷ []) (gives 0 nothing ∷ [])
+top_rule = named_rule 10 (symbol 0) (symbol 1 ∷ []) (gives 0 nothing ∷ [])
 
 abbrev pub list_rule : FlatRule
-list_rule = named_rule 13 (symbol 1) (symbol 5 ∷ []) (gives 0 nothing ∷ [])
+list_rule = named_rule 11 (symbol 1) (symbol 5 ∷ []) (gives 0 nothing ∷ [])
+
+-- two attributes that are nothing
+abbrev pub bare : List FlatComp
+bare = gives 0 nothing ∷ gives 1 nothing ∷ []
 
 abbrev pub pair_rule : FlatRule
-pair_rule = named_rule 14 (symbol 2) (symbol 3 ∷ symbol 4 ∷ []) (gives 0 nothing ∷ gives 1 nothing ∷ gives 2 nothing ∷ [])
+pair_rule = named_rule 12 (symbol 2) (symbol 3 ∷ symbol 4 ∷ []) bare
 
 abbrev pub rich_rule : FlatRule
-rich_rule = named_rule 15 (symbol 2) [] (gives 0 (eight_times nothing) ∷ gives 1 (eight_times nothing) ∷ gives 2 nothing ∷ [])
+rich_rule = named_rule 13 (symbol 2) [] (gives 0 (eight_times nothing) ∷ gives 1 (eight_times nothing) ∷ [])
+
+abbrev pub deep_rule : FlatRule
+deep_rule = named_rule 14 (symbol 2) (symbol 2 ∷ []) bare
 
 -- the cell's rules: an element and the next cell, or the end
-abbrev pub cell_rule : ℕ → List SymId → FlatRule
-cell_rule name right = named_rule name (symbol 5) right (gives 0 nothing ∷ gives 1 nothing ∷ [])
-
 abbrev pub block_cell : FlatRule
-block_cell = cell_rule 16 (symbol 1 ∷ symbol 5 ∷ [])
+block_cell = named_rule 15 (symbol 5) (symbol 1 ∷ symbol 5 ∷ []) bare
 
 abbrev pub item_cell : FlatRule
-item_cell = cell_rule 17 (symbol 2 ∷ symbol 5 ∷ [])
+item_cell = named_rule 16 (symbol 5) (symbol 2 ∷ symbol 5 ∷ []) bare
 
 abbrev pub end_cell : FlatRule
-end_cell = cell_rule 18 []
+end_cell = named_rule 17 (symbol 5) [] bare
 
 abbrev pub rules : List FlatRule
-rules = top_rule ∷ list_rule ∷ pair_rule ∷ rich_rule ∷ block_cell ∷ item_cell ∷ end_cell ∷ []
+rules = top_rule ∷ list_rule ∷ pair_rule ∷ rich_rule ∷ deep_rule ∷ block_cell ∷ item_cell ∷ end_cell ∷ []
 
 abbrev pub list_shape : Shape
 list_shape = record { rule = record { 0 = 1 }; list = true; right = symbol 1 ∷ symbol 2 ∷ [] }
@@ -100,4 +106,5 @@ shapes =
     ∷ list_shape
     ∷ record { rule = record { 0 = 2 }; list = false; right = symbol 3 ∷ symbol 4 ∷ [] }
     ∷ record { rule = record { 0 = 3 }; list = false; right = [] }
+    ∷ record { rule = record { 0 = 4 }; list = false; right = symbol 2 ∷ [] }
     ∷ []

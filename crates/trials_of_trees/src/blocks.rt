@@ -1,7 +1,6 @@
 //! The grammar of lists in lists.
 ghost use Rattle.std.specs.Prelude.{◌≡◌, None, [], ◌∷◌, IfOk};
-ghost use Rattle.lido_base.specs.declared.ids.SymId.{SymId as Symbol};
-ghost use Rattle.trials_of_trees.specs.Blocks.{symbols as six_symbols, rules as seven_rules, shapes as four_shapes, gives, nothing, numb, twice, eight_times, top_rule, list_rule, pair_rule, rich_rule, cell_rule, attribute};
+ghost use Rattle.trials_of_trees.specs.Blocks.{symbols as six_symbols, rules as eight_rules, shapes as five_shapes, gives, nothing, numb, twice, eight_times, bare, top_rule, list_rule, pair_rule, rich_rule, named, named_rule, attribute};
 
 use flat_grammar::{Flat, FlatAttr, FlatComp, FlatExpr, FlatRule, FlatSymbol, Shape};
 use lido_base::{Kind, List, Memory, Op, RuleId, StrId, SymId, Value, ValueType};
@@ -9,23 +8,22 @@ use std::alloc::Global;
 use trials_of_plans::parts::{computation, occurrence, one, plain_shape, rule, symbol, three, two};
 
 /// The names of the symbols, the attributes and the rules, in the order of their ids.
-pub const NAMES: [&str; 19] = [
+pub const NAMES: [&str; 18] = [
     "Top",
     "Block",
     "Item",
     "Num",
     "Word",
     "$rBlock",
-    "text",
-    "length",
+    "of_top",
+    "of_block",
     "first",
     "second",
-    "third",
-    "unused",
     "rTop",
     "rBlock",
-    "rPair",
+    "rP",
     "rRich",
+    "rD",
     "rBlock$Block",
     "rBlock$Item",
     "rBlock$",
@@ -38,36 +36,29 @@ fn made(name: u32) -> FlatAttr
     trials_of_plans::parts::attribute(name, Kind::Synthesized, ValueType::Text)
 }
 
-/// A nonterminal whose first attributes these are.
+/// A nonterminal with this attribute.
 fn nonterminal(alloc: Global, name: u32, first: u32) -> Result<FlatSymbol, Memory>
-    ensures { IfOk result (λ s. s ≡ record { name = record { 0 = name }; terminal = None; attrs = attribute first ∷ [] }) }
+    ensures { IfOk result (λ s. s ≡ named name None (attribute first ∷ [])) }
 {
     Ok(symbol(name, None, one(alloc, made(first))?))
 }
 
-/// The three nonterminals.
-fn nonterminals(alloc: Global) -> Result<List<FlatSymbol>, Memory>
-    ensures { IfOk result (λ list. list ≡ record { name = record { 0 = 0 }; terminal = None; attrs = attribute 6 ∷ [] }
-        ∷ record { name = record { 0 = 1 }; terminal = None; attrs = attribute 7 ∷ [] }
-        ∷ record { name = record { 0 = 2 }; terminal = None; attrs = attribute 8 ∷ attribute 9 ∷ attribute 10 ∷ [] } ∷ []) }
+/// A nonterminal with the attributes `first` and `second`.
+fn with_both(alloc: Global, name: u32) -> Result<FlatSymbol, Memory>
+    ensures { IfOk result (λ s. s ≡ named name None (attribute 8 ∷ attribute 9 ∷ [])) }
 {
-    let item = symbol(2, None, three(alloc, made(8), made(9), made(10))?);
-    three(
-        alloc,
-        nonterminal(alloc, 0, 6)?,
-        nonterminal(alloc, 1, 7)?,
-        item,
-    )
+    Ok(symbol(name, None, two(alloc, made(8), made(9))?))
 }
 
-/// The three nonterminals, the two terminals and the cell.
+/// Top, Block, Item, Num, Word and the cell.
 fn symbols(alloc: Global) -> Result<List<FlatSymbol>, Memory>
     ensures { IfOk result (λ list. list ≡ six_symbols) }
 {
-    let mut list = nonterminals(alloc)?;
+    let mut list = two(alloc, nonterminal(alloc, 0, 6)?, nonterminal(alloc, 1, 7)?)?;
+    list.push(with_both(alloc, 2)?)?;
     list.push(symbol(3, Some(ValueType::Int), List::new(alloc)))?;
     list.push(symbol(4, Some(ValueType::Str), List::new(alloc)))?;
-    list.push(symbol(5, None, two(alloc, made(8), made(9))?))?;
+    list.push(with_both(alloc, 5)?)?;
     Ok(list)
 }
 
@@ -113,28 +104,18 @@ fn rich(alloc: Global) -> Result<FlatExpr, Memory>
     called_twice(alloc, six_calls)
 }
 
-/// The rule rTop.
-fn rule_of_top(alloc: Global) -> Result<FlatRule, Memory>
-    ensures { IfOk result (λ r. r ≡ top_rule) }
+/// The left side's one attribute is nothing.
+fn one_empty(alloc: Global) -> Result<List<FlatComp>, Memory>
+    ensures { IfOk result (λ comps. comps ≡ gives 0 nothing ∷ []) }
 {
-    let comps = one(alloc, empty(alloc, 0))?;
-    Ok(rule(12, 0, one(alloc, SymId(1))?, comps))
+    one(alloc, empty(alloc, 0))
 }
 
-/// The rule rBlock, which leads to the list's cell.
-fn rule_of_list(alloc: Global) -> Result<FlatRule, Memory>
-    ensures { IfOk result (λ r. r ≡ list_rule) }
+/// The left side's two attributes are nothing.
+fn two_empty(alloc: Global) -> Result<List<FlatComp>, Memory>
+    ensures { IfOk result (λ comps. comps ≡ bare) }
 {
-    let comps = one(alloc, empty(alloc, 0))?;
-    Ok(rule(13, 1, one(alloc, SymId(5))?, comps))
-}
-
-/// The rule rPair.
-fn rule_of_pair(alloc: Global) -> Result<FlatRule, Memory>
-    ensures { IfOk result (λ r. r ≡ pair_rule) }
-{
-    let comps = three(alloc, empty(alloc, 0), empty(alloc, 1), empty(alloc, 2))?;
-    Ok(rule(14, 2, two(alloc, SymId(3), SymId(4))?, comps))
+    two(alloc, empty(alloc, 0), empty(alloc, 1))
 }
 
 /// The rule rRich.
@@ -142,47 +123,43 @@ fn rule_of_rich(alloc: Global) -> Result<FlatRule, Memory>
     ensures { IfOk result (λ r. r ≡ rich_rule) }
 {
     let first = given(alloc, 0, rich(alloc)?);
-    let second = given(alloc, 1, rich(alloc)?);
-    let comps = three(alloc, first, second, empty(alloc, 2))?;
-    Ok(rule(15, 2, List::new(alloc), comps))
+    let comps = two(alloc, first, given(alloc, 1, rich(alloc)?))?;
+    Ok(rule(13, 2, List::new(alloc), comps))
 }
 
-/// A rule of the cell.
-fn rule_of_cell(alloc: Global, name: u32, right: List<SymId>) -> Result<FlatRule, Memory>
-    ensures { IfOk result (λ r. r ≡ cell_rule name right) }
+/// A rule whose left side's two attributes are nothing.
+fn rule_of_both(alloc: Global, name: u32, left: u16, right: List<SymId>) -> Result<FlatRule, Memory>
+    ensures { IfOk result (λ r. r ≡ named_rule name (record { 0 = left }) right bare) }
 {
-    let comps = two(alloc, empty(alloc, 0), empty(alloc, 1))?;
-    Ok(rule(name, 5, right, comps))
+    Ok(rule(name, left, right, two_empty(alloc)?))
 }
 
-/// A rule of the cell with an element.
-fn rule_of_element(alloc: Global, name: u32, element: u16) -> Result<FlatRule, Memory>
-    ensures { IfOk result (λ r. r ≡ cell_rule name ((record { 0 = element } : Symbol) ∷ record { 0 = 5 } ∷ [])) }
+/// The rules rTop, rBlock and rP.
+fn first_rules(alloc: Global) -> Result<List<FlatRule>, Memory>
+    ensures { IfOk result (λ list. list ≡ top_rule ∷ list_rule ∷ pair_rule ∷ []) }
 {
-    let right = two(alloc, SymId(element), SymId(5))?;
-    rule_of_cell(alloc, name, right)
+    let top = rule(10, 0, one(alloc, SymId(1))?, one_empty(alloc)?);
+    let list = rule(11, 1, one(alloc, SymId(5))?, one_empty(alloc)?);
+    let right = two(alloc, SymId(3), SymId(4))?;
+    three(alloc, top, list, rule_of_both(alloc, 12, 2, right)?)
 }
 
-/// The seven rules.
+/// The eight rules.
 fn rules(alloc: Global) -> Result<List<FlatRule>, Memory>
-    ensures { IfOk result (λ list. list ≡ seven_rules) }
+    ensures { IfOk result (λ list. list ≡ eight_rules) }
 {
-    let mut list = three(
-        alloc,
-        rule_of_top(alloc)?,
-        rule_of_list(alloc)?,
-        rule_of_pair(alloc)?,
-    )?;
+    let mut list = first_rules(alloc)?;
     list.push(rule_of_rich(alloc)?)?;
-    list.push(rule_of_element(alloc, 16, 1)?)?;
-    list.push(rule_of_element(alloc, 17, 2)?)?;
-    list.push(rule_of_cell(alloc, 18, List::new(alloc))?)?;
+    list.push(rule_of_both(alloc, 14, 2, one(alloc, SymId(2))?)?)?;
+    list.push(rule_of_both(alloc, 15, 5, two(alloc, SymId(1), SymId(5))?)?)?;
+    list.push(rule_of_both(alloc, 16, 5, two(alloc, SymId(2), SymId(5))?)?)?;
+    list.push(rule_of_both(alloc, 17, 5, List::new(alloc))?)?;
     Ok(list)
 }
 
-/// The shapes of the four rules that are no cell's.
+/// The shapes of the five rules that are no cell's.
 fn shapes(alloc: Global) -> Result<List<Shape>, Memory>
-    ensures { IfOk result (λ list. list ≡ four_shapes) }
+    ensures { IfOk result (λ list. list ≡ five_shapes) }
 {
     let top = plain_shape(0, one(alloc, SymId(1))?);
     let block = Shape {
@@ -193,6 +170,7 @@ fn shapes(alloc: Global) -> Result<List<Shape>, Memory>
     let pair = plain_shape(2, two(alloc, SymId(3), SymId(4))?);
     let mut list = three(alloc, top, block, pair)?;
     list.push(plain_shape(3, List::new(alloc)))?;
+    list.push(plain_shape(4, one(alloc, SymId(2))?))?;
     Ok(list)
 }
 

@@ -5,6 +5,6 @@ use std::test::Fail;
 #[test]
 fn the_grammar_is_made(rt: HostRuntime) -> Result<(), Fail> {
     let flat = grammar(rt.alloc())?;
-    assert_eq!(rt; flat.rules.len(), 7);
+    assert_eq!(rt; flat.rules.len(), 8);
     Ok(())
 }

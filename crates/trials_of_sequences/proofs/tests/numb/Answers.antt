@@ -3,7 +3,7 @@ use Rattle.lido_base.specs.declared.operation.Op.TheVariants.{Numb}
 use Rattle.flat_grammar.specs.declared.flat.FlatExpr.{Read}
 use Rattle.flat_grammar.specs.declared.flat.FlatExpr.TheVariants as expr
 use Rattle.trials_of_grammar.specs.LateInherited.{S_v}
-use Rattle.trials_of_sequences.proofs.OneArgument.{call-one}
+use Rattle.trials_of_grammar.proofs.OneArgument.{call-one}
 use Rattle.trials_of_sequences.proofs.tests.numb.Goals as goal
 
 pub returns : goal.returns

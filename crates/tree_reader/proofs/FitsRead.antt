@@ -1,6 +1,6 @@
 -- What fits a grammar and is written in brackets is read.
 use Rattle.std.proofs.Common.{◌≡◌, ℕ, ℤ, ◌+◌, ◌<◌, ◌≤◌, Bool, true, false, true≢false, if◌then◌else◌, ◌==◌, List, [], ◌∷◌, ◌++◌, take, drop, length, Some, None, Option, Result, Ok, Err, refl, ap, sym, ◌∙◌, subst, arith, suc, zero, ◌⊎◌, inl, inr, ⊎_elim}
-use Rattle.std.specs.Prelude.{⊤, nat_le, nat_lt, slice_get, slice_index_or, All, AllPairs, Contains, ◌||◌, ◌&&◌, not, is_some, IsTrue, option_and_then, option_map, bytes_eq, filter_map}
+use Rattle.std.specs.Prelude.{nat_le, nat_lt, slice_get, slice_index_or, AllPairs, Contains, ◌||◌, ◌&&◌, not, is_some, IsTrue, option_and_then, option_map, bytes_eq}
 use Rattle.std.specs.List.{AllZip, list_any}
 use Rattle.std.proofs.lemmas.Bool.{cases_lt}
 use Rattle.std.proofs.lemmas.Bool.Decides.{nat_tests}
@@ -9,7 +9,7 @@ use Rattle.std.proofs.lemmas.Slice.Eq.{bytes_eq-Decides}
 use Rattle.lido_lexer.proofs.Options.{held}
 use Rattle.lido_base.specs.Plain.{Plain, Int, Str}
 use Rattle.lido_base.specs.Texts.{IsDistinctTexts}
-use Rattle.lido_base.specs.Tree.{Tree, Node, Item, Child, Leaf, IsTree, items_of, item_at, parent_of, place_of, rule_at, contains, children, child_number, is_just}
+use Rattle.lido_base.specs.Tree.{Tree, Node, Item, Child, Leaf, IsTree, items_of, parent_of, rule_at, contains, children, is_just}
 use Rattle.lido_base.specs.declared.ids.SymId.{SymId}
 use Rattle.lido_base.specs.declared.ids.StrId.{StrId}
 use Rattle.lido_base.specs.declared.kinds.Many.TheVariants as many
@@ -23,16 +23,15 @@ use Rattle.tree_store.proofs.GrowthLemmas.{Contains-child}
 use Rattle.flat_grammar.specs.declared.flat.FlatSymbol.{FlatSymbol}
 use Rattle.flat_grammar.specs.declared.flat.FlatRule.{FlatRule}
 use Rattle.flat_grammar.specs.declared.flat.Shape.{Shape}
-use Rattle.flat_grammar.specs.Rules.{HasRule}
 use Rattle.flat_grammar.specs.WellFormed.{IsWellFormed, IsListShape, is_same_symbol, is_nonterminal, is_nonterminal_symbol, cell_of}
-use Rattle.flat_grammar.specs.Fitting.{IsFitting, IsItem, IsTerminal, HasShape, HasSymbol}
+use Rattle.flat_grammar.specs.Fitting.{IsFitting, IsItem, IsTerminal, HasSymbol}
 use Rattle.flat_grammar.specs.Fitting.{node as node_item, int as int_item, string as string_item}
-use Rattle.flat_grammar.proofs.Lists.{contains-nil, contains-cons, contains-slice_get}
+use Rattle.flat_grammar.proofs.Lists.{contains-nil, contains-cons}
 use Rattle.tree_reader.specs.Language.{Forest, none, node, int, string}
 use Rattle.tree_reader.specs.WrittenTrees.{Asked, count, first_of, unless_fault, rule_named, items, nodes, fault_among, meaning, most_nodes}
 use Rattle.tree_reader.specs.WrittenAs.{HasName, AreWritten, IsWrittenAs}
-use Rattle.tree_reader.specs.Asking.{asked, is_same_type, shape_at, no_shape, may_be, first_from, left_of, type_of, may_be_value, may_be_node, may_be_root, name_of, has_name}
-use Rattle.tree_reader.proofs.Slots.{same_symbol, IsSlot, AreFrom, contains_at}
+use Rattle.tree_reader.specs.Asking.{asked, is_same_type, shape_at, no_shape, may_be, first_from, left_of, type_of, has_name}
+use Rattle.tree_reader.proofs.Slots.{IsSlot, AreFrom, contains_at}
 use Rattle.tree_reader.proofs.TablesOfForests.{table}
 
 -- ---- tests that pass

@@ -1,5 +1,5 @@
 -- The numbers of parts and of what they are the parts of.
-use Rattle.std.proofs.Common.{◌≡◌, ℕ, ◌+◌, ◌<◌, ◌≤◌, List, [], ◌∷◌, ◌++◌, take, length, get_or, Result, Ok, Err, refl, ap, sym, ◌∙◌, subst, arith, append_assoc, suc, zero}
+use Rattle.std.proofs.Common.{◌≡◌, ℕ, ◌+◌, ◌<◌, ◌≤◌, List, [], ◌∷◌, ◌++◌, take, length, get_or, Result, Ok, Err, sym, ◌∙◌, subst, arith, append_assoc, suc, zero}
 use Rattle.std.specs.Prelude.{OnOk}
 use Rattle.tree_reader.specs.Language.{Forest, none, node, int, string, parts_of}
 use Rattle.tree_reader.specs.Writing.{IsFirst}

@@ -1,10 +1,8 @@
 -- The parts of a node tell the node, and so its meaning.
-use Rattle.std.proofs.Common.{◌≡◌, ℕ, List, [], ◌∷◌, ◌++◌, Result, Err, Ok, refl, ap, sym, ◌∙◌, append_assoc, inl, inr}
+use Rattle.std.proofs.Common.{◌≡◌, ℕ, List, [], ◌∷◌, ◌++◌, Result, Err, refl, ap, sym, ◌∙◌, append_assoc, inl, inr}
 use Rattle.lido_base.specs.Phases.{IsThe, Gives}
-use Rattle.lido_base.specs.Plain.{Plain, plain_tree}
+use Rattle.lido_base.specs.Plain.{Plain}
 use Rattle.lido_base.specs.Tree.{Tree}
-use Rattle.lido_base.specs.declared.value.Value.{Value}
-use Rattle.lido_lexer.specs.Lexing.{Gains}
 use Rattle.tree_store.specs.declared.fault.TreeFault.{TreeFault}
 use Rattle.tree_store.specs.declared.fault.TreeFault.TheVariants as fault
 use Rattle.tree_reader.specs.Language.{Forest, none, node, int, string, parts_of}

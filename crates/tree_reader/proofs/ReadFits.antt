@@ -1,6 +1,6 @@
 -- What is read of a written tree fits the grammar.
-use Rattle.std.proofs.Common.{◌≡◌, ℕ, ℤ, pos, negsuc, ◌+◌, ◌-◌, ◌^◌, ◌<◌, ◌≤◌, Bool, true, false, true≢false, if◌then◌else◌, List, [], ◌∷◌, length, Some, None, Option, Result, Ok, Err, refl, ap, sym, ◌∙◌, subst, arith, suc, zero, ◌⊎◌, inl, inr, ⊎_elim}
-use Rattle.std.specs.Prelude.{⊤, nat_le, slice_get, slice_index_or, All, Contains, FitsSigned, ◌≤ℤ◌, ◌<ℤ◌, ◌||◌, option_and_then, option_map}
+use Rattle.std.proofs.Common.{◌≡◌, ℕ, ℤ, pos, negsuc, ◌+◌, ◌-◌, ◌^◌, ◌<◌, ◌≤◌, Bool, true, false, true≢false, if◌then◌else◌, List, [], ◌∷◌, length, Some, None, Option, Result, Ok, Err, refl, ap, sym, ◌∙◌, subst, arith, suc, zero, ⊎_elim}
+use Rattle.std.specs.Prelude.{nat_le, slice_get, All, Contains, FitsSigned, ◌≤ℤ◌, ◌<ℤ◌, option_and_then, option_map}
 use Rattle.std.specs.Int.{w64}
 use Rattle.std.specs.List.{AllZip, list_any}
 use Rattle.std.proofs.lemmas.Bool.{cases_lt}
@@ -8,7 +8,7 @@ use Rattle.std.proofs.lemmas.Int.{ints}
 use Rattle.std.proofs.lemmas.Option.{none-some}
 use Rattle.lido_lexer.proofs.Options.{held}
 use Rattle.lido_base.specs.Plain.{Plain, Int, Str}
-use Rattle.lido_base.specs.Tree.{Tree, Node, Item, Child, Leaf, items_of, rule_at}
+use Rattle.lido_base.specs.Tree.{Tree, Item, Child, Leaf, items_of, rule_at}
 use Rattle.lido_base.specs.declared.ids.SymId.{SymId}
 use Rattle.lido_base.specs.declared.kinds.Many.TheVariants as many
 use Rattle.lido_base.specs.declared.value.ValueType.{ValueType}
@@ -18,12 +18,12 @@ use Rattle.tree_store.specs.declared.fault.TreeFault.TheVariants as fault
 use Rattle.flat_grammar.specs.declared.flat.FlatSymbol.{FlatSymbol}
 use Rattle.flat_grammar.specs.declared.flat.FlatRule.{FlatRule}
 use Rattle.flat_grammar.specs.declared.flat.Shape.{Shape}
-use Rattle.flat_grammar.specs.WellFormed.{IsWellFormed, is_same_symbol, cell_of}
+use Rattle.flat_grammar.specs.WellFormed.{IsWellFormed, is_same_symbol}
 use Rattle.flat_grammar.specs.Fitting.{IsFitting, IsItem, IsTerminal, HasShape, HasSymbol}
 use Rattle.flat_grammar.specs.Fitting.{node as node_item, int as int_item, string as string_item}
 use Rattle.tree_reader.specs.Language.{Forest, none, node, int, string}
-use Rattle.tree_reader.specs.WrittenTrees.{Asked, count, first_of, unless_fault, rule_named, items, nodes, fault_among, meaning, most_nodes}
-use Rattle.tree_reader.specs.Asking.{asked, is_same_type, shape_at, no_shape, child_symbol, may_be, first_from, left_of, type_of, may_be_value, may_be_node, may_be_root, has_name}
+use Rattle.tree_reader.specs.WrittenTrees.{Asked, count, first_of, unless_fault, rule_named, items, fault_among, meaning, most_nodes}
+use Rattle.tree_reader.specs.Asking.{asked, is_same_type, shape_at, no_shape, may_be, left_of, type_of, may_be_value, may_be_node, may_be_root, has_name}
 use Rattle.tree_reader.specs.Ints.{HasInts}
 use Rattle.tree_reader.proofs.Filling.{length-nodes}
 use Rattle.tree_reader.proofs.Naming.{first_inside}

@@ -1,6 +1,6 @@
 -- Places of a rule's right side, and what stands in them.
-use Rattle.std.proofs.Common.{◌≡◌, ℕ, ◌+◌, ◌<◌, ◌≤◌, Bool, true, false, true≢false, List, [], ◌∷◌, map, drop, length, Some, None, Option, refl, ap, sym, ◌∙◌, subst, arith, suc, zero, ◌⊎◌, inl, inr, if◌then◌else◌}
-use Rattle.std.specs.Prelude.{⊤, nat_le, slice_get, slice_index_or, All, Contains, ◌||◌}
+use Rattle.std.proofs.Common.{◌≡◌, ℕ, ◌<◌, ◌≤◌, Bool, true, false, true≢false, List, [], ◌∷◌, map, drop, length, Some, refl, ap, sym, ◌∙◌, subst, arith, suc, zero, ◌⊎◌, inl, inr, if◌then◌else◌}
+use Rattle.std.specs.Prelude.{nat_le, slice_get, slice_index_or, All, Contains, ◌||◌}
 use Rattle.std.specs.List.{AllZip, list_any}
 use Rattle.std.proofs.lemmas.Bool.Decides.{nat_tests}
 use Rattle.std.proofs.lemmas.Option.{none-some}

@@ -1,5 +1,5 @@
 -- The table of a written tree is a tree in preorder, and has its nodes in their places.
-use Rattle.std.proofs.Common.{◌≡◌, ℕ, ℤ, ◌+◌, ◌<◌, List, [], ◌∷◌, ◌++◌, length, Some, None, Option, refl, ap, sym, ◌∙◌, subst, arith, append_assoc, append-nil, suc, zero, add-one, length-append}
+use Rattle.std.proofs.Common.{◌≡◌, ℕ, ◌+◌, ◌<◌, List, [], ◌∷◌, ◌++◌, length, Some, None, Option, refl, ap, sym, ◌∙◌, subst, arith, append_assoc, append-nil, suc, zero, add-one, length-append}
 use Rattle.std.specs.Prelude.{⊤, slice_get}
 use Rattle.lido_base.specs.Plain.{Plain, Int, Str}
 use Rattle.lido_base.specs.Tree.{Tree, Node, Item, Child, Leaf, IsTree, items_of, parent_of, places, rule_at, with_item, with_node}

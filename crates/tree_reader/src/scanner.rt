@@ -475,10 +475,11 @@ impl Scanner {
 ///
 /// `TreeSyntax` comes exactly where the text is outside the language of bracketed trees, and has the least place such that the
 /// bytes up to it and at it begin no text of the language, or the text's length if the text itself begins one and isn't one.
-/// `Memory` is want of memory.
+/// `Memory` is want of memory. There are no more parts than bytes.
 pub fn scan(alloc: Global, text: &[u8]) -> Result<Vec<Part>, TreeFault>
     requires { length text.now ≤ 8388608 }
-    ensures { Gives (λ parts. parts.items) (Scanning text.now) TreeFault.Memory result }
+    ensures gives { Gives (λ parts. parts.items) (Scanning text.now) TreeFault.Memory result }
+    ensures few { IfOk result (λ parts. length parts.items ≤ length text.now) }
 {
     let mut scanner = Scanner {
         parts: List::new(alloc),

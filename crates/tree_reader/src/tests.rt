@@ -145,9 +145,9 @@ fn texts_and_their_parts(rt: HostRuntime) -> Result<(), Fail> {
         let found = answer(rt.alloc(), text)?;
         assert_eq!(rt; found.as_slice(), want, "at {text:?}");
     }
-    let whole: &[u8] = b"(rTop (rAdd (rNum 3)(rNum 4)))\n";
+    let whole: &[u8] = b"(rTop (rAdd (rNum 3) (rNum 4)))";
     for k in 0..31usize {
-        assert!(rt; k == 30 || cut_off(rt.alloc(), whole, k)?);
+        assert!(rt; cut_off(rt.alloc(), whole, k)?);
     }
     Ok(())
 }

@@ -53,5 +53,5 @@ returns-clause-fits c =
     read_fits c.args.flat.now.symbols c.args.flat.now.rules c.args.flat.now.shapes c.args.flat.now.root c.args.strings.now c.args.flat.now.well_formed name_at name below end
     (plain_tree c.loop-part.strings c.loop-part.tree)
     (below_first c.args.parts.now at name_at name below end c.first_name-name_at.result.0 c.first_name-name_at.result.1.now c.first_name-name_at.result.2.now is c.first_name-name_at.ensures
-        (all_have c.loop-part.part-index c.first_name-name_at.result.2.now (omega arith) c.loop-part.invariant.ints))
+    (all_have c.loop-part.part-index c.first_name-name_at.result.2.now (omega arith) c.loop-part.invariant.ints))
     (all_written (no_more_parts c.first_name-name_at.result.2.now c.loop-part.part-index (omega arith) written))

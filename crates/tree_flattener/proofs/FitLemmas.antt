@@ -21,37 +21,40 @@ use Rattle.tree_flattener.specs.Drafts.{Table, Suits}
 use Rattle.tree_flattener.proofs.GrowLemmas.{some_same}
 use Rattle.tree_flattener.proofs.ShapeLemmas.{shape_rule, is_cell_of, element_has_rule, few_in_shape, element_nonterminal}
 
+same_child : (c d : ℕ) → ◌≡◌ {A = Item Plain} (Child c) (Child d) → d ≡ c
+same_child c d e = cc
+
+leaf_child : (u : Plain) (d : ℕ) → ◌≡◌ {A = Item Plain} (Leaf u) (Child d) → ⊥
+leaf_child u d e = cc
+
 module _ (texts : List (List ℕ)) where
   pub rule_at-plain : (W : Table) (n : ℕ) → rule_at (plain_tree texts W) n ≡ rule_at W n
   rule_at-plain [] n = refl
-  rule_at-plain (node ∷ W) zero = refl
-  rule_at-plain (node ∷ W) (suc n) = rule_at-plain W n
+  rule_at-plain (first ∷ W) zero = refl
+  rule_at-plain (first ∷ W) (suc n) = rule_at-plain W n
 
   pub items_of-plain : (W : Table) (n : ℕ) → items_of (plain_tree texts W) n ≡ map (plain_item texts) (items_of W n)
   items_of-plain [] n = refl
-  items_of-plain (node ∷ W) zero = refl
-  items_of-plain (node ∷ W) (suc n) = items_of-plain W n
+  items_of-plain (first ∷ W) zero = refl
+  items_of-plain (first ∷ W) (suc n) = items_of-plain W n
 
   pub length-plain : (W : Table) → length (plain_tree texts W) ≡ length W
   length-plain [] = refl
-  length-plain (node ∷ W) = ap suc (length-plain W)
+  length-plain (first ∷ W) = ap suc (length-plain W)
 
   module _ (symbols : List FlatSymbol) (rules : List FlatRule) (shapes : List Shape) (root : SymId) (well : IsWellFormed symbols rules shapes root) (W : Table) (tree : IsTree W) (fits : IsFitting symbols rules shapes root (plain_tree texts W)) where
     no_terminal : (s : SymId) (ty : ValueType) → IsTrue (is_nonterminal symbols s) → IsTerminal symbols rules shapes root (plain_tree texts W) s ty → ⊥
     no_terminal s ty non (x, at, is) = differ (subst (λ o. IsTrue (is_nonterminal_symbol o)) at non)
       where
         differ : IsTrue (not (is_some x.terminal)) → ⊥
-        differ h = cc (ap (λ o. not (is_some o)) is)
+        differ h = false_true (sym (ap (λ o. not (is_some o)) is) ∙ h)
+
+        false_true : false ≡ true → ⊥
+        false_true e = cc
 
     child_of : (s : SymId) → IsTrue (is_nonterminal symbols s) → (x : Item Value) (y : Item Plain) → plain_item texts x ≡ y → IsItem symbols rules shapes root (plain_tree texts W) s y → (c : ℕ) × (x ≡ Child c) × HasSymbol symbols rules shapes root (plain_tree texts W) c s
-    child_of s non (Child c) y e (node {c = d} h) = (c, refl, subst (λ z. HasSymbol symbols rules shapes root (plain_tree texts W) z s) (same e) h)
-      where
-        same : Child c ≡ Child d → d ≡ c
-        same e = cc
-    child_of s non (Leaf v) y e (node h) = absurd (differ e)
-      where
-        differ : {c : ℕ} {u : Plain} → Leaf u ≡ Child c → ⊥
-        differ e = cc
+    child_of s non (Child c) y e (node {c = d} h) = (c, refl, subst (λ z. HasSymbol symbols rules shapes root (plain_tree texts W) z s) (same_child c d e) h)
+    child_of s non (Leaf v) y e (node {c = d} h) = absurd (leaf_child (plain texts v) d e)
     child_of s non x y e (int h low high) = absurd (no_terminal s _ non h)
     child_of s non x y e (string h) = absurd (no_terminal s _ non h)
 

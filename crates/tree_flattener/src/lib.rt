@@ -2,6 +2,7 @@
 #![tactic(auto)]
 
 mod draft;
+mod flatten;
 mod forms;
 mod terminals;
 mod walk;

@@ -21,6 +21,9 @@ use Rattle.tree_flattener.specs.Drafts.{Table, Suits}
 use Rattle.tree_flattener.proofs.GrowLemmas.{some_same}
 use Rattle.tree_flattener.proofs.ShapeLemmas.{shape_rule, is_cell_of, element_has_rule, few_in_shape, element_nonterminal}
 
+false_true : false ≡ true → ⊥
+false_true e = cc
+
 same_child : (c d : ℕ) → ◌≡◌ {A = Item Plain} (Child c) (Child d) → d ≡ c
 same_child c d e = cc
 
@@ -49,8 +52,7 @@ module _ (texts : List (List ℕ)) where
         differ : IsTrue (not (is_some x.terminal)) → ⊥
         differ h = false_true (sym (ap (λ o. not (is_some o)) is) ∙ h)
 
-        false_true : false ≡ true → ⊥
-        false_true e = cc
+
 
     child_of : (s : SymId) → IsTrue (is_nonterminal symbols s) → (x : Item Value) (y : Item Plain) → plain_item texts x ≡ y → IsItem symbols rules shapes root (plain_tree texts W) s y → (c : ℕ) × (x ≡ Child c) × HasSymbol symbols rules shapes root (plain_tree texts W) c s
     child_of s non (Child c) y e (node {c = d} h) = (c, refl, subst (λ z. HasSymbol symbols rules shapes root (plain_tree texts W) z s) (same_child c d e) h)

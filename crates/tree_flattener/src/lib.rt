@@ -2,7 +2,9 @@
 #![tactic(auto)]
 
 mod draft;
-mod flatten;
+mod flatten_tree;
 mod forms;
 mod terminals;
 mod walk;
+
+pub use flatten_tree::flatten;

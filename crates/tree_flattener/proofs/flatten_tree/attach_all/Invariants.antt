@@ -1,6 +1,6 @@
 use Rattle.std.proofs.Common.{◌≡◌, ◌+◌, length}
 use Rattle.tree_flattener.specs.Drafts.{IsWalk}
-use Rattle.tree_flattener.proofs.flatten.attach_all.Given as goal
+use Rattle.tree_flattener.proofs.flatten_tree.attach_all.Given as goal
 
 -- the first n nodes are attached, and the spot is at the last of them
 abbrev pub invariant-loop-n : goal.invariant-loop-n

@@ -1,6 +1,8 @@
 //! The flat tree of a written tree that fits the grammar.
-ghost use Rattle.std.specs.Prelude.{◌≡◌, ◌<◌, ◌≤◌, ◌+◌, IfOk, All, length};
+ghost use Rattle.std.specs.Prelude.{◌≡◌, ◌<◌, ◌≤◌, ◌+◌, ℕ, List, IfOk, All, length};
 ghost use Rattle.lido_base.specs.Tree.{IsTree};
+ghost use Rattle.lido_base.specs.Plain.{plain_tree};
+ghost use Rattle.flat_grammar.specs.Fitting.{IsFitting};
 ghost use Rattle.flat_grammar.specs.FlatTrees.{IsFlatTree};
 ghost use Rattle.tree_flattener.specs.Drafts.{Suits, IsWalk, most_nodes};
 ghost use Rattle.tree_flattener.specs.Forms.{AreForms};
@@ -9,9 +11,9 @@ use crate::draft::{Draft, Spot};
 use crate::forms::{Form, forms};
 use crate::walk::{climb, close, go_down};
 use flat_grammar::Flat;
-use lido_base::{List, Memory, NodeId};
+use lido_base::{List as Sequence, Memory, NodeId};
 use std::alloc::Global;
-use tree_store::Tree;
+use tree_store::{Tree, TreeFault, Trees};
 
 /// The flat tree of the root alone.
 fn first(alloc: Global, flat: &Flat, written: &Tree) -> Result<Draft, Memory>
@@ -22,8 +24,8 @@ fn first(alloc: Global, flat: &Flat, written: &Tree) -> Result<Draft, Memory>
 {
     let mut tree = Tree::new(alloc)?;
     tree.add_node(written.rule(NodeId(0)), None)?;
-    let node_of = List::from_vec(vec![in alloc; 0]?);
-    let flat_of = List::from_vec(vec![in alloc; 0]?);
+    let node_of = Sequence::from_vec(vec![in alloc; 0]?);
+    let flat_of = Sequence::from_vec(vec![in alloc; 0]?);
     Ok(Draft {
         flat: tree,
         node_of,
@@ -73,4 +75,24 @@ pub fn flat_tree(alloc: Global, flat: &Flat, written: &Tree) -> Result<Draft, Me
     let root = climb(flat, forms, written, &mut draft, last, 0)?;
     close(flat, forms, written, &mut draft, root)?;
     Ok(draft)
+}
+
+/// Makes the flat tree of a written tree that fits the grammar: under each list node a chain of cells, each with one element
+/// and the next cell, the last with nothing. `node_of` gives the written node of each flat node, a cell's being its list's.
+///
+/// `written` has at most 1,048,576 nodes. `TooMany` comes where the flat tree has more than 4,194,304 instances, and else where
+/// it has more than 16,777,216 text cells; `Memory` is want of memory.
+pub fn flatten(alloc: Global, flat: &Flat, written: Tree) -> Result<Trees, TreeFault>
+    requires fits { (texts : List (List ℕ)) × IsFitting flat.now.symbols flat.now.rules flat.now.shapes flat.now.root (plain_tree texts written) }
+    requires few { length written ≤ 1048576 }
+    ensures written { IfOk result (λ trees. trees.written ≡ written) }
+    ensures flat { IfOk result (λ trees. IsFlatTree flat.now.symbols flat.now.rules flat.now.shapes written trees.flat trees.node_of) }
+{
+    let draft = flat_tree(alloc, flat, &written)?;
+    let Draft { flat: tree, node_of, .. } = draft;
+    Ok(Trees {
+        written,
+        flat: tree,
+        node_of,
+    })
 }

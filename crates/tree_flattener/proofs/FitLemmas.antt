@@ -1,7 +1,8 @@
 -- A written tree that fits the grammar suits it.
-use Rattle.std.specs.Prelude.{Contains, slice_get, true, false, not, Bool, IsTrue, map, All, is_some, option_map}
+use Rattle.std.specs.Prelude.{Contains, slice_get, true, false, not, Bool, IsTrue, map, All, is_some, option_map, filter_map, nat_eq, nat_lt, ◌||◌, ◌&&◌}
+use Rattle.std.specs.List.Sorted.{IsStrictlyIncreasing}
 use Rattle.std.specs.List.{AllZip}
-use Rattle.std.proofs.Common.{◌≡◌, ℕ, zero, suc, ◌<◌, List, [], ◌∷◌, length, Option, Some, None, refl, ap, sym, subst, ◌∙◌, arith, get_or}
+use Rattle.std.proofs.Common.{◌≡◌, ℕ, zero, suc, ◌+◌, ◌<◌, List, [], ◌∷◌, length, Option, Some, None, refl, ap, sym, subst, ◌∙◌, arith, get_or}
 use Rattle.std.proofs.lemmas.Option.{slice_get-map, slice_get_within, get_or_from_slice_get}
 use Rattle.std.proofs.lemmas.List.{length-map}
 use Rattle.std.proofs.lemmas.Slice.Zip.{AllZip-long}
@@ -10,7 +11,7 @@ use Rattle.lido_base.specs.declared.value.Value.{Value}
 use Rattle.lido_base.specs.declared.value.Value.TheVariants as value
 use Rattle.lido_base.specs.declared.value.ValueType.{ValueType}
 use Rattle.lido_base.specs.Plain.{Plain, plain, plain_item, plain_tree}
-use Rattle.lido_base.specs.Tree.{Tree, Item, Child, Leaf, IsTree, rule_at, items_of}
+use Rattle.lido_base.specs.Tree.{Tree, Item, Child, Leaf, IsTree, rule_at, items_of, parent_of, place_of, children, child_number, ancestors, unroll, and_above, continues, contains, is_just}
 use Rattle.flat_grammar.specs.declared.flat.FlatSymbol.{FlatSymbol}
 use Rattle.flat_grammar.specs.declared.flat.FlatRule.{FlatRule}
 use Rattle.flat_grammar.specs.declared.flat.Shape.{Shape}
@@ -21,44 +22,96 @@ use Rattle.tree_flattener.specs.Drafts.{Table, Suits}
 use Rattle.tree_flattener.proofs.GrowLemmas.{some_same}
 use Rattle.tree_flattener.proofs.ShapeLemmas.{shape_rule, is_cell_of, element_has_rule, few_in_shape, element_nonterminal}
 
+false_true : false ≡ true → ⊥
+false_true e = cc
+
+same_child : (c d : ℕ) → ◌≡◌ {A = Item Plain} (Child c) (Child d) → d ≡ c
+same_child c d e = cc
+
+leaf_child : (u : Plain) (d : ℕ) → ◌≡◌ {A = Item Plain} (Leaf u) (Child d) → ⊥
+leaf_child u d e = cc
+
 module _ (texts : List (List ℕ)) where
   pub rule_at-plain : (W : Table) (n : ℕ) → rule_at (plain_tree texts W) n ≡ rule_at W n
   rule_at-plain [] n = refl
-  rule_at-plain (node ∷ W) zero = refl
-  rule_at-plain (node ∷ W) (suc n) = rule_at-plain W n
+  rule_at-plain (first ∷ W) zero = refl
+  rule_at-plain (first ∷ W) (suc n) = rule_at-plain W n
 
   pub items_of-plain : (W : Table) (n : ℕ) → items_of (plain_tree texts W) n ≡ map (plain_item texts) (items_of W n)
   items_of-plain [] n = refl
-  items_of-plain (node ∷ W) zero = refl
-  items_of-plain (node ∷ W) (suc n) = items_of-plain W n
+  items_of-plain (first ∷ W) zero = refl
+  items_of-plain (first ∷ W) (suc n) = items_of-plain W n
 
   pub length-plain : (W : Table) → length (plain_tree texts W) ≡ length W
   length-plain [] = refl
-  length-plain (node ∷ W) = ap suc (length-plain W)
+  length-plain (first ∷ W) = ap suc (length-plain W)
 
-  module _ (symbols : List FlatSymbol) (rules : List FlatRule) (shapes : List Shape) (root : SymId) (well : IsWellFormed symbols rules shapes root) (W : Table) (tree : IsTree W) (fits : IsFitting symbols rules shapes root (plain_tree texts W)) where
+  parent_of-plain : (W : Table) (n : ℕ) → parent_of (plain_tree texts W) n ≡ parent_of W n
+  parent_of-plain [] n = refl
+  parent_of-plain (first ∷ W) zero = refl
+  parent_of-plain (first ∷ W) (suc n) = parent_of-plain W n
+
+  place_of-plain : (W : Table) (n : ℕ) → place_of (plain_tree texts W) n ≡ place_of W n
+  place_of-plain [] n = refl
+  place_of-plain (first ∷ W) zero = refl
+  place_of-plain (first ∷ W) (suc n) = place_of-plain W n
+
+  numbers-plain : (items : List (Item Value)) → filter_map child_number (map (plain_item texts) items) ≡ filter_map child_number items
+  numbers-plain [] = refl
+  numbers-plain (Child c ∷ items) = ap (λ xs. c ∷ xs) (numbers-plain items)
+  numbers-plain (Leaf v ∷ items) = numbers-plain items
+
+  children-plain : (W : Table) (n : ℕ) → children (plain_tree texts W) n ≡ children W n
+  children-plain W n = ap (filter_map child_number) (items_of-plain W n) ∙ numbers-plain (items_of W n)
+
+  climb-plain : (W : Table) (turns n : ℕ) → unroll [] (λ above m. and_above above (parent_of (plain_tree texts W) m)) turns n ≡ unroll [] (λ above m. and_above above (parent_of W m)) turns n
+  climb-plain W zero n = refl
+  climb-plain W (suc turns) n = ap (and_above (unroll [] (λ above m. and_above above (parent_of (plain_tree texts W) m)) turns)) (parent_of-plain W n) ∙ go (parent_of W n) (λ p. climb-plain W turns p)
+    where
+      go : (o : Option ℕ) → ((p : ℕ) → unroll [] (λ above m. and_above above (parent_of (plain_tree texts W) m)) turns p ≡ unroll [] (λ above m. and_above above (parent_of W m)) turns p)
+          → and_above (unroll [] (λ above m. and_above above (parent_of (plain_tree texts W) m)) turns) o ≡ and_above (unroll [] (λ above m. and_above above (parent_of W m)) turns) o
+      go None ih = refl
+      go (Some p) ih = ap (λ xs. p ∷ xs) (ih p)
+
+  ancestors-plain : (W : Table) (n : ℕ) → ancestors (plain_tree texts W) n ≡ ancestors W n
+  unfolding ancestors
+  ancestors-plain W n = climb-plain W n n
+
+  continues-plain : (W : Table) (n : ℕ) (o : Option ℕ) → continues (plain_tree texts W) n o ≡ continues W n o
+  continues-plain W n None = refl
+  continues-plain W n (Some p) = ap (λ above. nat_eq p n || contains p above) (ancestors-plain W n)
+
+  -- a tree is one with its terminals as they are stored
+  pub tree-plain : (W : Table) → IsTree (plain_tree texts W) → IsTree W
+  tree-plain W t = record {
+    has_root = let h = t.has_root in omega (arith, length-plain W);
+    root_first = sym (parent_of-plain W 0) ∙ t.root_first;
+    root_place = sym (place_of-plain W 0) ∙ t.root_place;
+    in_preorder = λ n h. subst IsTrue (ap (continues (plain_tree texts W) n) (parent_of-plain W (n + 1)) ∙ continues-plain W n (parent_of W (n + 1))) (t.in_preorder n (omega (arith, length-plain W)));
+    items_agree = λ n c. ap (contains c) (sym (children-plain W n)) ∙ t.items_agree n c ∙ ap (λ l. nat_lt c l && is_just n (parent_of (plain_tree texts W) c)) (length-plain W) ∙ ap (λ o. nat_lt c (length W) && is_just n o) (parent_of-plain W c);
+    children_ascend = λ n. subst IsStrictlyIncreasing (children-plain W n) (t.children_ascend n);
+    places_agree = λ n k c e. sym (place_of-plain W c) ∙ t.places_agree n k c (ap (λ xs. slice_get xs k) (items_of-plain W n) ∙ slice_get-map (plain_item texts) (items_of W n) k ∙ ap (option_map (plain_item texts)) e);
+  }
+
+  module _ (symbols : List FlatSymbol) (rules : List FlatRule) (shapes : List Shape) (root : SymId) (well : IsWellFormed symbols rules shapes root) (W : Table) (fits : IsFitting symbols rules shapes root (plain_tree texts W)) where
     no_terminal : (s : SymId) (ty : ValueType) → IsTrue (is_nonterminal symbols s) → IsTerminal symbols rules shapes root (plain_tree texts W) s ty → ⊥
     no_terminal s ty non (x, at, is) = differ (subst (λ o. IsTrue (is_nonterminal_symbol o)) at non)
       where
         differ : IsTrue (not (is_some x.terminal)) → ⊥
-        differ h = cc (ap (λ o. not (is_some o)) is)
+        differ h = false_true (sym (ap (λ o. not (is_some o)) is) ∙ h)
+
+
 
     child_of : (s : SymId) → IsTrue (is_nonterminal symbols s) → (x : Item Value) (y : Item Plain) → plain_item texts x ≡ y → IsItem symbols rules shapes root (plain_tree texts W) s y → (c : ℕ) × (x ≡ Child c) × HasSymbol symbols rules shapes root (plain_tree texts W) c s
-    child_of s non (Child c) y e (node {c = d} h) = (c, refl, subst (λ z. HasSymbol symbols rules shapes root (plain_tree texts W) z s) (same e) h)
-      where
-        same : Child c ≡ Child d → d ≡ c
-        same e = cc
-    child_of s non (Leaf v) y e (node h) = absurd (differ e)
-      where
-        differ : {c : ℕ} {u : Plain} → Leaf u ≡ Child c → ⊥
-        differ e = cc
+    child_of s non (Child c) y e (node {c = d} h) = (c, refl, subst (λ z. HasSymbol symbols rules shapes root (plain_tree texts W) z s) (same_child c d e) h)
+    child_of s non (Leaf v) y e (node {c = d} h) = absurd (leaf_child (plain texts v) d e)
     child_of s non x y e (int h low high) = absurd (no_terminal s _ non h)
     child_of s non x y e (string h) = absurd (no_terminal s _ non h)
 
     -- each node of it has what the grammar asks for
     pub suits : Suits symbols rules shapes W
     suits = record {
-      tree = tree;
+      tree = tree-plain W fits.tree;
       shaped = shaped;
       ruled = λ n h. let s = shaped n h in let r = shape_rule symbols rules shapes root well s.0 s.1 in (r.0, (s.0.rule.0, s.2, r.1), r.2);
       few = λ n shape among is plain. (

@@ -62,26 +62,23 @@ different_has (x ∷ xs) s h = go (contains-cons x s xs h) (different_has xs s)
         pick true e = here (same_symbol x s e)
         pick false e = contains-later x s (filter (λ q. not (is_same_symbol x q)) (different xs)) (filter_has (λ q. not (is_same_symbol x q)) (different xs) s (ih m) (ap not e))
 
+abbrev Found : SymId → List SymId → List FlatRule → Type 0
+Found cell rs rules = (k : ℕ) × (q : FlatRule) × (slice_get rules k ≡ Some q) × (q.left ≡ cell) × (q.right ≡ rs)
+
 -- a right side is that of a rule
 side_there : (rules : List FlatRule) (cell : SymId) (rs : List SymId) → Contains (map (λ (r : FlatRule). r.right) (filter (λ (r : FlatRule). is_same_symbol r.left cell) rules)) rs
     → (k : ℕ) × (r : FlatRule) × (slice_get rules k ≡ Some r) × (r.left ≡ cell) × (r.right ≡ rs)
 side_there [] cell rs h = absurd (omega (arith, h.1))
 side_there (r ∷ rules) cell rs h = go (is_same_symbol r.left cell) refl h (side_there rules cell rs)
   where
-    rest : List FlatRule
-    rest = filter (λ (q : FlatRule). is_same_symbol q.left cell) rules
-
-    abbrev Found : List FlatRule → Type 0
-    Found rs_of = (k : ℕ) × (q : FlatRule) × (slice_get rs_of k ≡ Some q) × (q.left ≡ cell) × (q.right ≡ rs)
-
-    later : Found rules → Found (r ∷ rules)
+    later : Found cell rs rules → Found cell rs (r ∷ rules)
     later (k, q, got, left, right) = (suc k, q, got, left, right)
 
     go : (b : Bool) → is_same_symbol r.left cell ≡ b → Contains (map (λ (q : FlatRule). q.right) (cond b (r ∷ filter (λ (q : FlatRule). is_same_symbol q.left cell) rules) (filter (λ (q : FlatRule). is_same_symbol q.left cell) rules))) rs
-        → (Contains (map (λ (q : FlatRule). q.right) (filter (λ (q : FlatRule). is_same_symbol q.left cell) rules)) rs → Found rules) → Found (r ∷ rules)
+        → (Contains (map (λ (q : FlatRule). q.right) (filter (λ (q : FlatRule). is_same_symbol q.left cell) rules)) rs → Found cell rs rules) → Found cell rs (r ∷ rules)
     go true e h ih = at (contains-cons r.right rs (map (λ (q : FlatRule). q.right) (filter (λ (q : FlatRule). is_same_symbol q.left cell) rules)) h)
       where
-        at : (r.right ≡ rs) ⊎ Contains (map (λ (q : FlatRule). q.right) (filter (λ (q : FlatRule). is_same_symbol q.left cell) rules)) rs → Found (r ∷ rules)
+        at : (r.right ≡ rs) ⊎ Contains (map (λ (q : FlatRule). q.right) (filter (λ (q : FlatRule). is_same_symbol q.left cell) rules)) rs → Found cell rs (r ∷ rules)
         at (inl same) = (0, r, refl, same_symbol r.left cell e, same)
         at (inr m) = later (ih m)
     go false e h ih = later (ih h)
@@ -93,25 +90,25 @@ module _ (p : FlatRule → Bool) where
 
   position_at : (rules : List FlatRule) (k i x : ℕ) → slice_get (positions_from p k rules) i ≡ Some x → Passes rules k x
   position_at [] k i x e = cc
-  position_at (r ∷ rules) k i x e = go (p r) refl i e
+  position_at (r ∷ rules) k i x e = go (p r) refl i e (λ j. position_at rules (suc k) j x)
     where
       later : Passes rules (suc k) x → Passes (r ∷ rules) k x
       later (j, q, at, got, pass) = (suc j, q, omega arith, got, pass)
 
-      go : (b : Bool) → p r ≡ b → (i : ℕ) → slice_get (cond b (k ∷ positions_from p (suc k) rules) (positions_from p (suc k) rules)) i ≡ Some x → Passes (r ∷ rules) k x
-      go true pass zero e = let same : k ≡ x = some_same e in (0, r, omega arith, refl, pass)
-      go true pass (suc i) e = later (position_at rules (suc k) i x e)
-      go false fail i e = later (position_at rules (suc k) i x e)
+      go : (b : Bool) → p r ≡ b → (i : ℕ) → slice_get (cond b (k ∷ positions_from p (suc k) rules) (positions_from p (suc k) rules)) i ≡ Some x → ((j : ℕ) → slice_get (positions_from p (suc k) rules) j ≡ Some x → Passes rules (suc k) x) → Passes (r ∷ rules) k x
+      go true pass zero e more = let same : k ≡ x = some_same e in (0, r, omega arith, refl, pass)
+      go true pass (suc i) e more = later (more i e)
+      go false fail i e more = later (more i e)
 
   position_rises : (rules : List FlatRule) (k i j x y : ℕ) → slice_get (positions_from p k rules) i ≡ Some x → slice_get (positions_from p k rules) j ≡ Some y → i < j → x < y
   position_rises [] k i j x y e f h = cc
-  position_rises (r ∷ rules) k i j x y e f h = go (p r) i j e f h
+  position_rises (r ∷ rules) k i j x y e f h = go (p r) i j e f h (λ a b. position_rises rules (suc k) a b x y)
     where
-      go : (b : Bool) (i j : ℕ) → slice_get (cond b (k ∷ positions_from p (suc k) rules) (positions_from p (suc k) rules)) i ≡ Some x → slice_get (cond b (k ∷ positions_from p (suc k) rules) (positions_from p (suc k) rules)) j ≡ Some y → i < j → x < y
-      go true i zero e f h = absurd (omega arith)
-      go true zero (suc j) e f h = let same : k ≡ x = some_same e in let late = position_at rules (suc k) j y f in omega (arith, late.2)
-      go true (suc i) (suc j) e f h = position_rises rules (suc k) i j x y e f (omega arith)
-      go false i j e f h = position_rises rules (suc k) i j x y e f h
+      go : (b : Bool) (i j : ℕ) → slice_get (cond b (k ∷ positions_from p (suc k) rules) (positions_from p (suc k) rules)) i ≡ Some x → slice_get (cond b (k ∷ positions_from p (suc k) rules) (positions_from p (suc k) rules)) j ≡ Some y → i < j → ((a b : ℕ) → slice_get (positions_from p (suc k) rules) a ≡ Some x → slice_get (positions_from p (suc k) rules) b ≡ Some y → a < b → x < y) → x < y
+      go true i zero e f h more = absurd (omega arith)
+      go true zero (suc j) e f h more = let same : k ≡ x = some_same e in let late = position_at rules (suc k) j y f in omega (arith, late.2)
+      go true (suc i) (suc j) e f h more = more i j e f (omega arith)
+      go false i j e f h more = more i j e f h
 
 not_true : (b : Bool) → not b ≡ true → b ≡ false
 not_true true e = cc
@@ -136,17 +133,17 @@ module _ (symbols : List FlatSymbol) (rules : List FlatRule) (shapes : List Shap
   pub list_shape : (shape : Shape) → Contains shapes shape → shape.list ≡ true → IsListShape symbols rules shape (cell_of symbols rules shape)
   list_shape shape among list = All-contains (λ (s : Shape). IsTrue s.list → IsListShape symbols rules s (cell_of symbols rules s)) shapes shape well.each_list among list
 
+  abbrev has_cell : SymId → Shape → Bool
+  has_cell cell s = s.list && is_same_symbol cell (cell_of symbols rules s)
+
   -- a list's cell is one
   pub is_cell_of : (shape : Shape) → Contains shapes shape → shape.list ≡ true → IsTrue (is_cell symbols rules shapes (cell_of symbols rules shape))
   is_cell_of shape among list = go shapes among
     where
-      abbrev test : Shape → Bool
-      test s = s.list && is_same_symbol (cell_of symbols rules shape) (cell_of symbols rules s)
-
-      passes : test shape ≡ true
+      passes : has_cell (cell_of symbols rules shape) shape ≡ true
       passes = rw list (eq-eqb (cell_of symbols rules shape).0 (cell_of symbols rules shape).0 refl)
 
-      go : (xs : List Shape) → Contains xs shape → list_any test xs ≡ true
+      go : (xs : List Shape) → Contains xs shape → list_any (has_cell (cell_of symbols rules shape)) xs ≡ true
       go [] m = absurd (omega (arith, m.1))
       go (x ∷ xs) m = at (contains-cons x shape xs m) (go xs)
         where
@@ -154,9 +151,9 @@ module _ (symbols : List FlatSymbol) (rules : List FlatRule) (shapes : List Shap
           or_true true = refl
           or_true false = refl
 
-          at : (x ≡ shape) ⊎ Contains xs shape → (Contains xs shape → list_any test xs ≡ true) → (test x || list_any test xs) ≡ true
-          at (inl same) ih = ap (λ b. b || list_any test xs) (ap test same ∙ passes)
-          at (inr n) ih = ap (λ b. test x || b) (ih n) ∙ or_true (test x)
+          at : (x ≡ shape) ⊎ Contains xs shape → (Contains xs shape → list_any (has_cell (cell_of symbols rules shape)) xs ≡ true) → (has_cell (cell_of symbols rules shape) x || list_any (has_cell (cell_of symbols rules shape)) xs) ≡ true
+          at (inl same) ih = ap (λ b. b || list_any (has_cell (cell_of symbols rules shape)) xs) (ap (has_cell (cell_of symbols rules shape)) same ∙ passes)
+          at (inr n) ih = ap (λ b. has_cell (cell_of symbols rules shape) x || b) (ih n) ∙ or_true (has_cell (cell_of symbols rules shape) x)
 
   pub element_has_rule : (shape : Shape) → Contains shapes shape → shape.list ≡ true → (s : SymId) → Contains shape.right s
       → (k : ℕ) × (r : FlatRule) × (slice_get rules k ≡ Some r) × (r.left ≡ cell_of symbols rules shape) × (r.right ≡ s ∷ cell_of symbols rules shape ∷ [])
@@ -179,7 +176,7 @@ module _ (symbols : List FlatSymbol) (rules : List FlatRule) (shapes : List Shap
       let few = All-contains (λ (r : FlatRule). length r.right < 2 ^ 16) rules rule.0 well.numbered_occurrences (contains-slice_get rules shape.rule.0 rule.0 rule.1) in omega (arith, ap length same)
     where
       side : (r : FlatRule) → slice_get rules shape.rule.0 ≡ Some r → right_side symbols rules shape ≡ r.right
-      side r e = rw e refl
+      side r e = rw (e, right_side) refl
 
   -- an element of a list is no terminal
   pub element_nonterminal : (shape : Shape) → Contains shapes shape → shape.list ≡ true → (s : SymId) → Contains shape.right s → IsTrue (is_nonterminal symbols s)

@@ -1,12 +1,12 @@
 -- The steps of the walk, for a draft with a spot.
-use Rattle.std.specs.Prelude.{Contains, slice_get, true, false, Bool, take, ◌^◌}
+use Rattle.std.specs.Prelude.{Contains, slice_get, true, false, Bool, take, All}
 use Rattle.std.proofs.Common.{◌≡◌, ℕ, zero, suc, ◌+◌, ◌*◌, ◌<◌, ◌≤◌, ◌⊎◌, inl, inr, List, [], ◌∷◌, ◌++◌, length, Option, Some, None, refl, ap, sym, subst, ◌∙◌, arith, length-append, add-one}
-use Rattle.std.proofs.lemmas.Option.{slice_get_within, get_or_from_slice_get}
+use Rattle.std.proofs.lemmas.Option.{slice_get_within, get_or_from_slice_get, slice_get-get_or}
 use Rattle.std.proofs.Common.{get_or, ◌-◌}
 use Rattle.lido_base.specs.declared.ids.RuleId.{RuleId}
 use Rattle.lido_base.specs.declared.ids.SymId.{SymId}
 use Rattle.lido_base.specs.declared.value.Value.{Value}
-use Rattle.lido_base.specs.Tree.{Item, Child, Leaf, IsTree, parent_of, place_of, items_of, item_at, rule_at, with_node, places}
+use Rattle.lido_base.specs.Tree.{Item, Child, Leaf, IsTree, parent_of, place_of, items_of, item_at, rule_at, with_node, places, ancestors}
 use Rattle.lido_base.proofs.TreeLemmas.{children_behind}
 use Rattle.flat_grammar.specs.declared.flat.FlatSymbol.{FlatSymbol}
 use Rattle.flat_grammar.specs.declared.flat.FlatRule.{FlatRule}
@@ -18,12 +18,13 @@ use Rattle.tree_store.specs.Growth.{IsOpen, IsTerminal}
 use Rattle.tree_flattener.specs.declared.draft.Draft.{Draft}
 use Rattle.tree_flattener.specs.declared.draft.Spot.{Spot}
 use Rattle.tree_flattener.specs.Forms.{IsElementRule, IsEndRule, AreElementRules}
-use Rattle.tree_flattener.specs.Drafts.{Table, IsOnPath, Fills, Suits, IsNumbered, IsDraft, IsAttached, IsClosed, IsWalk, HasForm}
-use Rattle.tree_flattener.proofs.PathLemmas.{with_parent_inside, own_item, place_inside}
+use Rattle.tree_flattener.specs.Drafts.{Table, IsOnPath, Fills, Suits, IsNumbered, IsDraft, IsAttached, IsClosed, IsWalk, HasForm, most_nodes}
+use Rattle.tree_flattener.proofs.PathLemmas.{with_parent_inside, own_item, place_inside, preorder_parent, no_more, child_parent}
 use Rattle.tree_flattener.proofs.GrowLemmas.{Adds, adds, some_same}
 use Rattle.tree_flattener.proofs.ItemLemmas.{there, take_all, take_short, items_length, rest_terminals, terminals_between, next_behind}
 use Rattle.tree_flattener.proofs.DraftLemmas.{attached_draft, closed_numbered, closed_draft, is_flat_tree}
-use Rattle.tree_flattener.proofs.StepLemmas.{low_m, tail_inside, tail_of_list, element_attached, list_closed, few_at_tail, child_attached, plain_closed}
+use Rattle.tree_flattener.proofs.StepLemmas.{low_m, tail_inside, tail_of_list, element_attached, list_closed, few_at_tail, child_attached, plain_closed, first_draft}
+use Rattle.tree_store.proofs.OpenLemmas.{open_added}
 
 module _ (symbols : List FlatSymbol) (rules : List FlatRule) (shapes : List Shape) (W : Table) (s : Draft) (at : Spot) (walk : IsWalk symbols rules shapes W s at) where
   -- the spot is at a written node
@@ -229,3 +230,29 @@ module _ (symbols : List FlatSymbol) (rules : List FlatRule) (shapes : List Shap
 
   pub left_is : (d : FlatRule) → (r : FlatRule) → HasRule rules W n r → (get_or xs j d).left ≡ r.left
   left_is d r (i, e, got) = ap (λ (z : FlatRule). z.left) (ap (λ z. get_or z j d) same ∙ get_or_from_slice_get rules j r d (ap (slice_get rules) (some_same (sym is ∙ e)) ∙ got))
+
+-- the walk begins at the root
+pub first_walk : (symbols : List FlatSymbol) (rules : List FlatRule) (shapes : List Shape) (W : Table) → Suits symbols rules shapes W → length W ≤ most_nodes → (s : Draft) (j : ℕ) → rule_at W 0 ≡ Some j → s.flat ≡ with_node [] j None → IsTree s.flat
+    → s.node_of ≡ 0 ∷ [] → s.flat_of ≡ 0 ∷ [] → IsWalk symbols rules shapes W s (record { node = 0; tail = 0; done = 0 })
+first_walk symbols rules shapes W suits few s j rule_is e tree nodes flats = record {
+  suits = suits;
+  few = few;
+  within = let h = suits.tree.has_root in omega (arith, ap length flats);
+  draft = subst (λ z. IsDraft symbols rules shapes W s.flat s.node_of z (length z) 0 0 0) (sym flats)
+      (subst (λ z. IsDraft symbols rules shapes W s.flat z (0 ∷ []) 1 0 0 0) (sym nodes)
+      (first_draft symbols rules shapes W suits suits.tree.has_root s.flat j rule_is e tree (subst (λ g. IsOpen g 0) (sym e) (open_added [] j None))));
+}
+
+module _ (W : Table) (tree : IsTree W) where
+  pub next_around : (l n p : ℕ) → l + 1 ≡ n → parent_of W n ≡ Some p → IsOnPath W l p
+  next_around l n p e up = preorder_parent W tree l p (ap (parent_of W) (sym (add-one l) ∙ e) ∙ up)
+
+  pub next_all_met : (l n p : ℕ) → l + 1 ≡ n → parent_of W n ≡ Some p → (m : ℕ) → IsOnPath W l m → Contains (ancestors W m) p → (k c : ℕ) → item_at W m k ≡ Some (Child c) → c < n
+  next_all_met l n p e up m path above k c at = let h = no_more W tree l m p path (ap (parent_of W) (sym (add-one l) ∙ e) ∙ up) above k c at in omega arith
+
+  pub child_inside : (m k c : ℕ) → item_at W m k ≡ Some (Child c) → c < length W
+  child_inside m k c at = with_parent_inside W c m (child_parent W tree m k c at)
+
+-- the numbers of written nodes are below their count
+pub all_inside : (symbols : List FlatSymbol) (rules : List FlatRule) (shapes : List Shape) (W F : Table) (node_of flat_of : List ℕ) → IsNumbered symbols rules shapes W F node_of flat_of → length flat_of ≡ length W → All (λ n. n < length W) node_of
+all_inside symbols rules shapes W F node_of flat_of numbered e k d h = let l = numbered.inside k (get_or node_of k d) (slice_get-get_or node_of k d h) in omega arith

@@ -10,6 +10,10 @@ use Rattle.tree_flattener.specs.declared.forms.Cells.{Cells}
 use Rattle.tree_flattener.specs.declared.forms.Form.{Form}
 use Rattle.tree_flattener.specs.declared.forms.Form.TheVariants.{Unnamed, Plain, Chain}
 
+-- the rule is that of a cell with an element of the symbol
+abbrev pub IsElementOf : SymId → FlatRule → SymId → Type 0
+IsElementOf cell r s = (r.left ≡ cell) × (r.right ≡ s ∷ cell ∷ [])
+
 module _ (rules : List FlatRule) (cell : SymId) where
   -- the rule of this number is that of a cell with an element of the symbol
   abbrev pub IsElementRule : SymId → RuleId → Type 0

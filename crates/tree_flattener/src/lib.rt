@@ -2,6 +2,9 @@
 #![tactic(auto)]
 
 mod draft;
+mod flatten_tree;
 mod forms;
 mod terminals;
 mod walk;
+
+pub use flatten_tree::flatten;

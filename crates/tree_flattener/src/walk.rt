@@ -64,7 +64,7 @@ fn close_list(
 }
 
 /// Adds what is behind the last child.
-fn close(
+pub fn close(
     flat: &Flat,
     forms: &[Form],
     written: &Tree,
@@ -129,7 +129,7 @@ fn go_up(
 }
 
 /// Closes nodes up to one around them, which is `to`.
-fn climb(
+pub fn climb(
     flat: &Flat,
     forms: &[Form],
     written: &Tree,
@@ -243,7 +243,7 @@ fn attach(
 }
 
 /// Adds a child of the spot's node, and goes to it.
-fn go_down(
+pub fn go_down(
     flat: &Flat,
     forms: &[Form],
     written: &Tree,

@@ -4,4 +4,5 @@ pub mod VertexLemmas
 pub mod DirectLemmas
 pub mod RoundLemmas
 pub mod GraphLemmas
+pub mod DueLemmas
 pub mod GrowthLemmas

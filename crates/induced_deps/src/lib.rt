@@ -3,6 +3,7 @@
 
 mod closure;
 mod direct;
+mod due;
 mod graph;
 mod growth;
 mod rounds;

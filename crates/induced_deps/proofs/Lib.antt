@@ -6,3 +6,4 @@ pub mod RoundLemmas
 pub mod GraphLemmas
 pub mod DueLemmas
 pub mod GrowthLemmas
+pub mod WordLemmas

@@ -10,5 +10,6 @@ mod rounds;
 mod row;
 #[cfg(test)]
 mod tests;
+mod words;
 
 pub use growth::induce;

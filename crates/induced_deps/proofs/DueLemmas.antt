@@ -1,6 +1,6 @@
 -- Which rules are still to be visited: marks are told on, and a rule without one is settled.
-use Rattle.std.specs.Prelude.{slice_index_or, slice_get, slice_set, Contains, IsBitSet}
-use Rattle.std.proofs.Common.{◌≡◌, ◌≢◌, ℕ, suc, ◌+◌, ◌-◌, ◌<◌, ◌≤◌, ◌⊎◌, inl, inr, refl, sym, ap, subst, ◌∙◌, arith, List, [], ◌∷◌, ◌++◌, length, map, take, drop, Some, Bool, true, false, true≢false}
+use Rattle.std.specs.Prelude.{slice_index_or, slice_get, slice_set, Contains}
+use Rattle.std.proofs.Common.{◌≡◌, ◌≢◌, ℕ, ◌+◌, ◌<◌, ◌⊎◌, inl, inr, refl, sym, ap, subst, ◌∙◌, arith, List, [], ◌∷◌, ◌++◌, length, map, take, drop, Some, Bool, true, false, true≢false}
 use Rattle.std.proofs.lemmas.Bool.{cases_order}
 use Rattle.std.proofs.lemmas.List.{length-map, length-set, length-append, get_or_past, get_or_append_left, get_or-set_same, get_or-set_other}
 use Rattle.std.proofs.Math.Seq.{get_or-append_seam, take-append_seam}
@@ -15,7 +15,7 @@ use Rattle.induced_deps.specs.Vertices.{IsAtPlace}
 use Rattle.induced_deps.specs.Rounds.{IsBit, IsReady, Tells, rows_of}
 use Rattle.induced_deps.specs.Graphs.{AreUsers, AreDue, IsSettled}
 use Rattle.induced_deps.proofs.RowLemmas.{equal_or_not}
-use Rattle.induced_deps.proofs.DirectLemmas.{take_cases, contains_at}
+use Rattle.induced_deps.proofs.DirectLemmas.{take_cases}
 
 -- ---- marks
 

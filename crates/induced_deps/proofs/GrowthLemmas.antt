@@ -1,6 +1,6 @@
 -- The rows of the symbols and the edges of the rules grow soundly, and once they have all of each other's they are the least.
-use Rattle.std.specs.Prelude.{take, slice_index_or, slice_get, slice_set, Contains, All, IsTrue, IsFalse, IsBitSet, option_map}
-use Rattle.std.proofs.Common.{◌≡◌, ◌≢◌, ℕ, zero, suc, ◌+◌, ◌<◌, ◌≤◌, ◌⊎◌, inl, inr, refl, sym, ap, subst, ◌∙◌, arith, List, [], ◌∷◌, ◌++◌, length, map, Option, Some, None, Bool, true, false, true≢false}
+use Rattle.std.specs.Prelude.{take, slice_index_or, slice_get, slice_set, Contains, All, IsTrue, IsBitSet, option_map}
+use Rattle.std.proofs.Common.{◌≡◌, ◌≢◌, ℕ, zero, suc, ◌+◌, ◌<◌, ◌≤◌, ◌⊎◌, inl, inr, refl, sym, ap, subst, ◌∙◌, arith, List, [], ◌∷◌, ◌++◌, length, map, Option, Some, None, true≢false}
 use Rattle.std.proofs.lemmas.Bool.{cases_lt, cases_order}
 use Rattle.std.proofs.lemmas.Option.{get_or_from_slice_get, slice_get-get_or, slice_get_within, slice_get-map}
 use Rattle.std.proofs.lemmas.List.{map-append, length-map, length-set, length-append, get_or_past, get_or-set_same, get_or-set_other, get_or_append_left}
@@ -24,8 +24,8 @@ use Rattle.induced_deps.specs.declared.graph.Place.{Place}
 use Rattle.induced_deps.specs.declared.growth.Graph.{Graph}
 use Rattle.induced_deps.specs.Rows.{Has, Gains, IsTransitive}
 use Rattle.induced_deps.specs.Vertices.{width, offset, number, IsVertex, IsPlace, ArePlaces}
-use Rattle.induced_deps.specs.Rounds.{IsBit, rows_of, room_of_all, OfPlaces, IsProjected, HasRow}
-use Rattle.induced_deps.specs.Graphs.{IsJoined, IsGraph, AreGraphs, AreSoundRows, HaveRows, IsSettled, AreSettled}
+use Rattle.induced_deps.specs.Rounds.{IsBit, rows_of, OfPlaces, IsProjected, HasRow}
+use Rattle.induced_deps.specs.Graphs.{IsJoined, IsGraph, AreGraphs, AreSoundRows, HaveRows, AreSettled}
 use Rattle.induced_deps.proofs.RowLemmas.{equal_or_not}
 use Rattle.induced_deps.proofs.VertexLemmas.{at_push}
 use Rattle.induced_deps.proofs.DirectLemmas.{next_take}

@@ -11,7 +11,7 @@ use Rattle.induced_deps.specs.Rows.{Has, IsTransitive}
 use Rattle.induced_deps.specs.Vertices.{IsVertex, ArePlaces, number, vertices, width}
 use Rattle.induced_deps.specs.declared.due.Due.{Due}
 use Rattle.induced_deps.specs.Due.{IsDone, IsUser}
-use Rattle.induced_deps.specs.Rounds.{IsBit, rows_of, OfPlaces, IsProjected, IsReady}
+use Rattle.induced_deps.specs.Rounds.{IsBit, rows_of, OfPlaces, IsProjected}
 
 module _ (symbols : List FlatSymbol) (rules : List FlatRule) where
   -- a path of the rule's induced dependencies joins the vertices of these numbers

@@ -1,4 +1,4 @@
-use Rattle.std.proofs.Common.{◌∙◌, ap, length, ◌∷◌, ◌++◌, [], ◌+◌, ℕ, subst, sym, List}
+use Rattle.std.proofs.Common.{◌∙◌, ap, ◌∷◌, ◌++◌, [], ◌+◌, ℕ, subst, List}
 use Rattle.std.proofs.lemmas.List.{length-append}
 use Rattle.induced_deps.specs.Due.{IsUser}
 use Rattle.induced_deps.proofs.DueLemmas.{no_users}

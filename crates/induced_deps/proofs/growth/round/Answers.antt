@@ -1,4 +1,4 @@
-use Rattle.std.proofs.Common.{arith, ap, subst, sym, ◌<◌, ◌≡◌, length}
+use Rattle.std.proofs.Common.{arith, subst, ◌<◌, length}
 use Rattle.std.proofs.lemmas.Option.{slice_get_within}
 use Rattle.induced_deps.specs.Due.{IsDone, in_turn}
 use Rattle.induced_deps.proofs.DueLemmas.{turn_of}

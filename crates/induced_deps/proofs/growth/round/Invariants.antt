@@ -1,4 +1,4 @@
-use Rattle.std.proofs.Common.{◌<◌, ◌≤◌, ◌≡◌, ℕ, length}
+use Rattle.std.proofs.Common.{◌<◌, ◌≤◌, ℕ, length}
 use Rattle.std.specs.Prelude.{IsTrue, IsFalse}
 use Rattle.induced_deps.specs.Due.{IsDone, in_turn}
 use Rattle.induced_deps.specs.Graphs.{AreDue, AreGraphs, AreSoundRows, HaveRows}

@@ -1,4 +1,4 @@
-use Rattle.std.proofs.Common.{◌≡◌, ◌∙◌, sym, ap, length, arith, ◌<◌, ◌≤◌, subst}
+use Rattle.std.proofs.Common.{◌≡◌, ◌∙◌, sym, ap, arith, ◌≤◌, subst}
 use Rattle.std.specs.Prelude.{slice_index_or, slice_set, false}
 use Rattle.std.proofs.lemmas.List.Elements.{All-contains}
 use Rattle.flat_grammar.specs.WellFormed.{IsRule}
@@ -7,8 +7,8 @@ use Rattle.flat_grammar.proofs.Lists.{held}
 use Rattle.induced_deps.specs.Graphs.{AreDue, IsGraph, IsSettled}
 use Rattle.induced_deps.specs.Vertices.{AreWithin}
 use Rattle.induced_deps.proofs.GraphLemmas.{within_all}
-use Rattle.induced_deps.proofs.GrowthLemmas.{graph_at, graph_grows, graphs_grow, have_rows, rows_same, rows_stay_sound}
-use Rattle.induced_deps.proofs.DueLemmas.{is_ready, due_grown, due_cleared, done_still}
+use Rattle.induced_deps.proofs.GrowthLemmas.{graph_at, graph_grows, graphs_grow, have_rows, rows_stay_sound}
+use Rattle.induced_deps.proofs.DueLemmas.{is_ready, due_grown, due_cleared}
 use Rattle.induced_deps.proofs.growth.visit.Goals as goal
 
 pub step-requires-clause-rows : goal.step-requires-clause-rows

@@ -1,4 +1,4 @@
-use Rattle.induced_deps.proofs.DueLemmas.{tells_nothing, tells_one}
+use Rattle.induced_deps.proofs.DueLemmas.{tells_one}
 use Rattle.induced_deps.proofs.rounds.feed.Goals as goal
 
 pub grown-requires-clause-within : goal.grown-requires-clause-within

@@ -1,4 +1,4 @@
-use Rattle.std.proofs.Common.{subst, ◌<◌, ◌^◌, ℕ, ◌+◌, ◌-◌, ◌%◌, ◌≤◌, ap}
+use Rattle.std.proofs.Common.{subst, ◌<◌, ◌^◌, ℕ, ◌+◌, ◌-◌, ◌%◌, ◌≤◌}
 use Rattle.std.specs.Prelude.{IsBitSet, ◌↔◌}
 use Rattle.induced_deps.proofs.WordLemmas.{seen_in, in_seen}
 use Rattle.induced_deps.proofs.row.Row.window.Goals as goal

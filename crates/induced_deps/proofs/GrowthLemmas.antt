@@ -1,6 +1,6 @@
 -- The rows of the symbols and the edges of the rules grow soundly, and once they have all of each other's they are the least.
-use Rattle.std.specs.Prelude.{take, slice_index_or, slice_get, slice_set, Contains, All, IsTrue, IsFalse, IsBitSet, option_map}
-use Rattle.std.proofs.Common.{◌≡◌, ◌≢◌, ℕ, zero, suc, ◌+◌, ◌<◌, ◌≤◌, ◌⊎◌, inl, inr, refl, sym, ap, subst, ◌∙◌, arith, List, [], ◌∷◌, ◌++◌, length, map, Option, Some, None, Bool, true, false, true≢false}
+use Rattle.std.specs.Prelude.{take, slice_index_or, slice_get, slice_set, Contains, All, IsTrue, IsBitSet, option_map}
+use Rattle.std.proofs.Common.{◌≡◌, ◌≢◌, ℕ, zero, suc, ◌+◌, ◌<◌, ◌≤◌, ◌⊎◌, inl, inr, refl, sym, ap, subst, ◌∙◌, arith, List, [], ◌∷◌, ◌++◌, length, map, Option, Some, None, true≢false}
 use Rattle.std.proofs.lemmas.Bool.{cases_lt, cases_order}
 use Rattle.std.proofs.lemmas.Option.{get_or_from_slice_get, slice_get-get_or, slice_get_within, slice_get-map}
 use Rattle.std.proofs.lemmas.List.{map-append, length-map, length-set, length-append, get_or_past, get_or-set_same, get_or-set_other, get_or_append_left}
@@ -24,8 +24,8 @@ use Rattle.induced_deps.specs.declared.graph.Place.{Place}
 use Rattle.induced_deps.specs.declared.growth.Graph.{Graph}
 use Rattle.induced_deps.specs.Rows.{Has, Gains, IsTransitive}
 use Rattle.induced_deps.specs.Vertices.{width, offset, number, IsVertex, IsPlace, ArePlaces}
-use Rattle.induced_deps.specs.Rounds.{IsBit, rows_of, room_of_all, OfPlaces, IsProjected, HasRow}
-use Rattle.induced_deps.specs.Graphs.{IsJoined, IsGraph, AreGraphs, AreSoundRows, HaveRows, IsSettled, AreSettled}
+use Rattle.induced_deps.specs.Rounds.{IsBit, rows_of, OfPlaces, IsProjected, HasRow}
+use Rattle.induced_deps.specs.Graphs.{IsJoined, IsGraph, AreGraphs, AreSoundRows, HaveRows, AreSettled}
 use Rattle.induced_deps.proofs.RowLemmas.{equal_or_not}
 use Rattle.induced_deps.proofs.VertexLemmas.{at_push}
 use Rattle.induced_deps.proofs.DirectLemmas.{next_take}
@@ -137,6 +137,13 @@ module _ (symbols : List FlatSymbol) (rules : List FlatRule) where
         let most = row_width p.symbol few range in
         record { within = (let count = row_count in omega arith); size = row_size p.symbol range ∙ sym is.width_is; few = omega arith }
 
+  -- the symbols of a rule's places are there
+  pub symbols_there : (r : FlatRule) (places : List Place) → IsRule symbols r → ArePlaces symbols r places → All (λ (p : Place). p.symbol.0 < length symbols) places
+  symbols_there r places rule are k d inside =
+      let p : Place = slice_index_or places k d in
+      let is = are.each k p (slice_get-get_or places k d inside) in
+      symbol_in_range r rule k p.symbol is.symbol
+
   pub rows_same : (old new : List (List ℕ)) → map length new ≡ map length old → HaveRows symbols old → HaveRows symbols new
   rows_same old new same have = have ∙ sym same
 
@@ -157,31 +164,6 @@ module _ (symbols : List FlatSymbol) (rules : List FlatRule) where
             let is : g ≡ q = sym (get_or-set_same graphs k g q (let count = are.count in omega arith)) ∙ sym (ap (λ n. slice_index_or (slice_set graphs k g) n q) same) ∙ get_or_from_slice_get (slice_set graphs k g) j q q found in
             subst (λ (z : Graph). IsGraph symbols rules r z.places.items z.closure.rows.items) is (new r (subst (λ n. slice_get rules n ≡ Some r) same at))
         at_place j r q at found (inr other) = are.each j r q at (other_graph graphs k g j q other found)
-
--- Graphs are settled up to one more, where no row grew.
-module _ (initial old new : List (List ℕ)) (graphs : List Graph) (k : ℕ) (g : Graph) (grew one both : Bool) (within : k < length graphs)
-    (either : ((one ≡ true) × (both ≡ true)) ⊎ ((one ≡ false) × (both ≡ grew))) where
-  pub settled_further : (IsFalse one → new ≡ old) → (IsFalse one → IsSettled new g) → (IsFalse grew → (j : ℕ) (q : Graph) → j < k → slice_get graphs j ≡ Some q → IsSettled old q)
-      → IsFalse both → (j : ℕ) (q : Graph) → j < k + 1 → slice_get (slice_set graphs k g) j ≡ Some q → IsSettled new q
-  settled_further same settled before none j q below found = elim either [
-    | inl new_one ↦ absurd (true≢false (sym new_one.1 ∙ none))
-    | inr other ↦ at_place (equal_or_not j k) other.0 (sym other.1 ∙ none)
-  ]
-    where
-      at_place : (j ≡ k) ⊎ (j ≢ k) → one ≡ false → grew ≡ false → IsSettled new q
-      at_place (inl here) still quiet =
-          let is : g ≡ q = sym (get_or-set_same graphs k g q within) ∙ sym (ap (λ n. slice_index_or (slice_set graphs k g) n q) here) ∙ get_or_from_slice_get (slice_set graphs k g) j q q found in
-          subst (λ (z : Graph). IsSettled new z) is (settled still)
-      at_place (inr there) still quiet = subst (λ ids. IsSettled ids q) (sym (same still)) (before quiet j q (omega arith) (other_graph graphs k g j q there found))
-
-  neither : IsFalse both → (one ≡ false) × (grew ≡ false)
-  neither none = elim either [ inl new_one ↦ absurd (true≢false (sym new_one.1 ∙ none)) | inr other ↦ (other.0, sym other.1 ∙ none) ]
-
-  pub same_further : (IsFalse one → new ≡ old) → (IsFalse grew → old ≡ initial) → IsFalse both → new ≡ initial
-  same_further step before none = let (first, second) = neither none in step first ∙ before second
-
-  pub less_further : room_of_all new ≤ room_of_all old → room_of_all old ≤ room_of_all initial → (IsTrue one → room_of_all new < room_of_all old) → (IsTrue grew → room_of_all old < room_of_all initial) → IsTrue both → room_of_all new < room_of_all initial
-  less_further step lighter less before some = elim either [ inl new_one ↦ (let now = less new_one.0 in omega arith) | inr other ↦ (let then = before (sym other.1 ∙ some) in omega arith) ]
 
 -- ---- the first graphs and rows
 

@@ -4,4 +4,6 @@ pub mod VertexLemmas
 pub mod DirectLemmas
 pub mod RoundLemmas
 pub mod GraphLemmas
+pub mod DueLemmas
 pub mod GrowthLemmas
+pub mod WordLemmas

@@ -9,6 +9,8 @@ use Rattle.induced_deps.specs.declared.graph.Place.{Place}
 use Rattle.induced_deps.specs.declared.growth.Graph.{Graph}
 use Rattle.induced_deps.specs.Rows.{Has, IsTransitive}
 use Rattle.induced_deps.specs.Vertices.{IsVertex, ArePlaces, number, vertices, width}
+use Rattle.induced_deps.specs.declared.due.Due.{Due}
+use Rattle.induced_deps.specs.Due.{IsDone, IsUser}
 use Rattle.induced_deps.specs.Rounds.{IsBit, rows_of, OfPlaces, IsProjected}
 
 module _ (symbols : List FlatSymbol) (rules : List FlatRule) where
@@ -53,3 +55,15 @@ pub record IsSettled (ids : List (List ℕ)) (g : Graph) : Type 0 where
 -- each graph is settled
 abbrev pub AreSettled : List (List ℕ) → List Graph → Type 0
 AreSettled ids graphs = (k : ℕ) (g : Graph) → slice_get graphs k ≡ Some g → IsSettled ids g
+
+-- each rule is a user of its symbols, and no other number is one
+pub record AreUsers (graphs : List Graph) (users : List (List ℕ)) : Type 0 where
+  pub all : (k : ℕ) (g : Graph) (p : Place) → slice_get graphs k ≡ Some g → Contains g.places.items p → IsUser users p.symbol.0 k
+  pub within : (x k : ℕ) → IsUser users x k → k < length graphs
+
+-- Each rule is a user of its symbols, and one that isn't to be visited is settled.
+pub record AreDue (graphs : List Graph) (ids : List (List ℕ)) (due : Due) : Type 0 where
+  pub count : length due.flags.items ≡ length graphs
+  pub symbols : length ids ≤ length due.users.items
+  pub users : AreUsers graphs due.users.items
+  pub settled : (k : ℕ) (g : Graph) → slice_get graphs k ≡ Some g → IsDone due.flags.items k → IsSettled ids g

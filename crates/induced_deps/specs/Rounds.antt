@@ -1,7 +1,9 @@
 -- How the induced dependencies of symbols and the edges of rules feed each other.
-use Rattle.std.specs.Prelude.{◌≡◌, ◌+◌, ◌-◌, ◌<◌, ◌≤◌, ◌^◌, ℕ, List, [], length, sum_by, slice_index_or, IsBitSet, Contains}
+use Rattle.std.specs.Prelude.{◌≡◌, ◌⊎◌, ◌+◌, ◌-◌, ◌<◌, ◌≤◌, ◌^◌, ℕ, List, [], length, sum_by, slice_index_or, IsBitSet, Contains}
 use Rattle.induced_deps.specs.declared.row.Row.{Row}
 use Rattle.induced_deps.specs.declared.graph.Place.{Place}
+use Rattle.induced_deps.specs.declared.due.Due.{Due}
+use Rattle.induced_deps.specs.Due.{IsDue, IsUser}
 use Rattle.induced_deps.specs.Rows.{Has}
 use Rattle.induced_deps.specs.Vertices.{IsAtPlace}
 
@@ -45,3 +47,15 @@ pub record IsAtSymbol (place : Place) (edges : List Row) (x a b : ℕ) : Type 0 
 -- an edge joins two vertices of some place
 abbrev pub IsProjected : List Place → List Row → ℕ → ℕ → ℕ → Type 0
 IsProjected places edges x a b = (p : Place) × Contains places p × IsAtSymbol p edges x a b
+
+-- each symbol has a list of users, which are rules
+pub record IsReady (ids : List (List ℕ)) (due : Due) : Type 0 where
+  pub symbols : length ids ≤ length due.users.items
+  pub within : (x k : ℕ) → IsUser due.users.items x k → k < length due.flags.items
+
+-- All users of a symbol whose rows changed are to be visited, and so is what was to be visited before.
+pub record Tells (before after : Due) (old new : List (List ℕ)) : Type 0 where
+  pub users : after.users ≡ before.users
+  pub size : length after.flags.items ≡ length before.flags.items
+  pub kept : (k : ℕ) → IsDue before.flags.items k → IsDue after.flags.items k
+  pub told : (x : ℕ) → (rows_of new x ≡ rows_of old x) ⊎ ((k : ℕ) → IsUser before.users.items x k → IsDue after.flags.items k)

@@ -9,7 +9,8 @@ ghost use Rattle.induced_deps.specs.Vertices.{AreWithin, HasPlaces, IsAtPlace, I
 use crate::closure::Closure;
 use crate::graph::Place;
 use crate::row::Row;
-use flat_grammar::{FlatComp, Occ, bits, dependencies_of};
+use crate::words::below;
+use flat_grammar::{FlatComp, Occ, dependencies_of};
 use lido_base::Memory;
 use std::alloc::Global;
 
@@ -18,13 +19,7 @@ pub fn vertices_of(word: u128, place: Place) -> Row
     requires { place.offset + place.width ≤ 1024 }
     ensures { (w : ℕ) → IsIn result.words w ↔ IsAtPlace place word w }
 {
-    let mut row = Row::new();
-    for b in 0..place.width {
-        if bits::has(word, b) {
-            row.add(place.offset + b);
-        }
-    }
-    row
+    Row::from_word(below(word, place.width), place.offset)
 }
 
 /// The attributes at a place whose vertices are in the row.
@@ -33,13 +28,7 @@ pub fn attributes_of(row: &Row, place: Place) -> u128
     requires few { place.width ≤ 128 }
     ensures { (b : ℕ) → IsBitSet result b ↔ ((b < place.width) × IsIn row.now.words (place.offset + b)) }
 {
-    let mut word = 0;
-    for b in 0..place.width {
-        if row.has(place.offset + b) {
-            word = bits::with(word, b);
-        }
-    }
-    word
+    below(row.window(place.offset), place.width)
 }
 
 /// The number of a vertex.

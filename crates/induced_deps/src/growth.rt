@@ -1,13 +1,15 @@
 //! The induced dependencies of all symbols.
 ghost use Rattle.std.specs.Prelude.{◌≡◌, ◌<◌, ◌≤◌, ◌⊎◌, ℕ, IfOk, IsTrue, IsFalse, All, Contains, map, length};
 ghost use Rattle.flat_grammar.specs.Dependencies.{AreInducedRows};
-ghost use Rattle.induced_deps.specs.Graphs.{AreGraphs, AreSettled, AreSoundRows, HaveRows, IsGraph, IsSettled};
+ghost use Rattle.induced_deps.specs.Due.{IsDone, IsUser, in_turn};
+ghost use Rattle.induced_deps.specs.Graphs.{AreDue, AreGraphs, AreSettled, AreSoundRows, AreUsers, HaveRows, IsGraph, IsSettled};
 ghost use Rattle.induced_deps.specs.Rows.{Gains, IsTransitive};
-ghost use Rattle.induced_deps.specs.Rounds.{HasRow, IsBit, IsProjected, OfPlaces, room_of_all, rows_of};
+ghost use Rattle.induced_deps.specs.Rounds.{HasRow, IsBit, IsProjected, IsReady, OfPlaces, Tells, room_of_all, rows_of};
 ghost use Rattle.induced_deps.specs.Vertices.{AreWithin};
 
 use crate::closure::Closure;
 use crate::direct::add_comps;
+use crate::due::{Due, add_user};
 use crate::graph::{Place, places_of};
 use crate::rounds::{add_induced, project};
 use flat_grammar::{Deps, Flat, FlatRule};
@@ -33,54 +35,109 @@ fn graph_of(alloc: Global, flat: &Flat, rule: &FlatRule) -> Result<Graph, Memory
 }
 
 /// Lets the edges of a rule and the rows of the symbols feed each other once, and tells whether a row grew.
-fn step(graph: &mut Graph, ids: &mut [List<u128>]) -> bool
+fn step(graph: &mut Graph, ids: &mut [List<u128>], due: &mut Due) -> bool
     requires rows { All (HasRow ids.old) graph.old.places.items }
     requires within { AreWithin graph.old.places.items (length graph.old.closure.rows.items) }
     requires few { length graph.old.closure.rows.items ≤ 1024 }
     requires transitive { IsTransitive graph.old.closure.rows.items }
+    requires ready { IsReady ids.old due.old }
     ensures places { graph.new.places ≡ graph.old.places }
     ensures size { length graph.new.closure.rows.items ≡ length graph.old.closure.rows.items }
     ensures transitive { IsTransitive graph.new.closure.rows.items }
     ensures edges { Gains graph.old.closure.rows.items graph.new.closure.rows.items (OfPlaces ids.old graph.old.places.items) }
     ensures sizes { map length ids.new ≡ map length ids.old }
     ensures sound { (x a b : ℕ) → IsBit (rows_of ids.new x) a b → IsBit (rows_of ids.old x) a b ⊎ IsProjected graph.old.places.items graph.new.closure.rows.items x a b }
+    ensures tells { Tells due.old due.new ids.old ids.new }
     ensures same { IsFalse result → ids.new ≡ ids.old }
+    ensures still { IsFalse result → due.new ≡ due.old }
     ensures settled { IsFalse result → IsSettled ids.new graph.new }
     ensures lighter { room_of_all ids.new ≤ room_of_all ids.old }
     ensures less { IsTrue result → room_of_all ids.new < room_of_all ids.old }
 {
     add_induced(&graph.places, ids, &mut graph.closure);
-    project(&graph.places, &graph.closure, ids)
+    project(&graph.places, &graph.closure, ids, due)
 }
 
-/// Goes over all rules once, and tells whether a row grew.
-fn round(flat: &Flat, graphs: &mut [Graph], ids: &mut [List<u128>]) -> bool
+/// Visits a rule if it is to be visited, and tells whether a row grew.
+fn visit(
+    flat: &Flat,
+    rule: usize,
+    graphs: &mut [Graph],
+    ids: &mut [List<u128>],
+    due: &mut Due,
+) -> bool
+    requires rule { rule < length flat.now.rules }
     requires graphs { AreGraphs flat.now.symbols flat.now.rules graphs.old }
     requires rows { HaveRows flat.now.symbols ids.old }
     requires sound { AreSoundRows flat.now.symbols flat.now.rules ids.old }
+    requires due { AreDue graphs.old ids.old due.old }
     ensures graphs { AreGraphs flat.now.symbols flat.now.rules graphs.new }
     ensures rows { HaveRows flat.now.symbols ids.new }
     ensures sound { AreSoundRows flat.now.symbols flat.now.rules ids.new }
+    ensures due { AreDue graphs.new ids.new due.new }
+    ensures quiet { IsFalse result → (j : ℕ) → (j ≡ rule) ⊎ IsDone due.old.flags.items j → IsDone due.new.flags.items j }
+    ensures lighter { room_of_all ids.new ≤ room_of_all ids.old }
+    ensures less { IsTrue result → room_of_all ids.new < room_of_all ids.old }
+{
+    if !due.has(rule) {
+        return false;
+    }
+    if step(&mut graphs[rule], ids, due) {
+        return true;
+    }
+    due.clear(rule);
+    false
+}
+
+/// The rule that comes in turn.
+fn in_turn(back: bool, count: usize, i: usize) -> usize
+    requires { i < count }
+    ensures { result ≡ in_turn back count i }
+{
+    if back { count - 1 - i } else { i }
+}
+
+/// Goes over all rules once, or goes back over them, and tells whether a row grew.
+fn round(
+    flat: &Flat,
+    back: bool,
+    graphs: &mut [Graph],
+    ids: &mut [List<u128>],
+    due: &mut Due,
+) -> bool
+    requires graphs { AreGraphs flat.now.symbols flat.now.rules graphs.old }
+    requires rows { HaveRows flat.now.symbols ids.old }
+    requires sound { AreSoundRows flat.now.symbols flat.now.rules ids.old }
+    requires due { AreDue graphs.old ids.old due.old }
+    ensures graphs { AreGraphs flat.now.symbols flat.now.rules graphs.new }
+    ensures rows { HaveRows flat.now.symbols ids.new }
+    ensures sound { AreSoundRows flat.now.symbols flat.now.rules ids.new }
+    ensures due { AreDue graphs.new ids.new due.new }
     ensures settled { IsFalse result → AreSettled ids.new graphs.new }
     ensures less { IsTrue result → room_of_all ids.new < room_of_all ids.old }
 {
     let mut grew = false;
-    for k in 0..flat.rules.len() {
-        if step(&mut graphs[k], ids) {
+    let count = flat.rules.len();
+    for i in 0..count {
+        if visit(flat, in_turn(back, count, i), graphs, ids, due) {
             grew = true;
         }
     }
     grew
 }
 
-/// Goes over all rules until no row grows.
-fn grow(flat: &Flat, graphs: &mut [Graph], ids: &mut [List<u128>])
+/// Goes over all rules, to and fro, until no row grows.
+fn grow(flat: &Flat, graphs: &mut [Graph], ids: &mut [List<u128>], due: &mut Due)
     requires graphs { AreGraphs flat.now.symbols flat.now.rules graphs.old }
     requires rows { HaveRows flat.now.symbols ids.old }
     requires sound { AreSoundRows flat.now.symbols flat.now.rules ids.old }
+    requires due { AreDue graphs.old ids.old due.old }
     ensures { AreInducedRows flat.now.symbols flat.now.rules ids.new }
 {
-    while round(flat, graphs, ids) {}
+    let mut back = false;
+    while round(flat, back, graphs, ids, due) {
+        back = !back;
+    }
 }
 
 /// The graphs of all rules.
@@ -117,16 +174,44 @@ fn empty_rows(alloc: Global, flat: &Flat) -> Result<Vec<List<u128>>, Memory>
     Ok(ids)
 }
 
+/// So many lists without items.
+fn empty_lists(alloc: Global, count: usize) -> Result<Vec<List<usize>>, Memory>
+    ensures size { IfOk result (λ lists. length lists.items ≡ count) }
+    ensures none { IfOk result (λ lists. (x k : ℕ) → IsUser lists.items x k → ⊥) }
+{
+    let mut lists = Vec::new(alloc);
+    for _ in 0..count {
+        lists.push(List::new(alloc))?;
+    }
+    Ok(lists)
+}
+
+/// For each symbol the rules that have it.
+fn users_of(alloc: Global, flat: &Flat, graphs: &[Graph]) -> Result<Vec<List<usize>>, Memory>
+    requires { AreGraphs flat.now.symbols flat.now.rules graphs.now }
+    ensures size { IfOk result (λ users. length users.items ≡ length flat.now.symbols) }
+    ensures users { IfOk result (λ users. AreUsers graphs.now users.items) }
+{
+    let mut users = empty_lists(alloc, flat.symbols.len())?;
+    for (k, graph) in graphs.iter().enumerate() {
+        add_user(k, &graph.places, &mut users)?;
+    }
+    Ok(users)
+}
+
 /// The induced dependencies between the attributes of each symbol, exactly: each bit is an edge of the least relation, and each
 /// edge is a bit (Kastens 1980).
 ///
-/// The direct dependencies of a rule and the rows of its symbols feed each other, until no row grows. `Memory` is want of memory.
+/// The direct dependencies of a rule and the rows of its symbols feed each other, until no row grows. A rule is visited again only
+/// where a row of one of its symbols grew. `Memory` is want of memory.
 pub fn induce(alloc: Global, flat: &Flat) -> Result<Deps, Memory>
     ensures { IfOk result (λ deps. AreInducedRows flat.now.symbols flat.now.rules deps.ids) }
 {
     let mut ids = empty_rows(alloc, flat)?;
     let mut graphs = graphs_of(alloc, flat)?;
-    grow(flat, &mut graphs, &mut ids);
+    let users = users_of(alloc, flat, &graphs)?;
+    let mut due = Due::all(alloc, users, graphs.len())?;
+    grow(flat, &mut graphs, &mut ids, &mut due);
     Ok(Deps {
         ids: List::from_vec(ids),
     })

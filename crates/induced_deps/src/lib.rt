@@ -3,11 +3,13 @@
 
 mod closure;
 mod direct;
+mod due;
 mod graph;
 mod growth;
 mod rounds;
 mod row;
 #[cfg(test)]
 mod tests;
+mod words;
 
 pub use growth::induce;

@@ -1,11 +1,12 @@
 //! How the induced dependencies of symbols and the edges of rules feed each other.
-ghost use Rattle.std.specs.Prelude.{◌≡◌, ◌+◌, ◌<◌, ◌≤◌, ◌↔◌, ◌⊎◌, ℕ, IsTrue, IsFalse, IsBitSet, All, length, map};
+ghost use Rattle.std.specs.Prelude.{◌≡◌, ◌+◌, ◌<◌, ◌≤◌, ◌↔◌, ◌⊎◌, ◌≢◌, ℕ, IsTrue, IsFalse, IsBitSet, All, length, map};
 ghost use Rattle.induced_deps.specs.Rows.{Gains, Has, IsTransitive};
-ghost use Rattle.induced_deps.specs.Rounds.{HasRow, IsAtSymbol, IsBit, IsProjected, OfPlaces, OfRows, room, room_of_all, rows_of};
+ghost use Rattle.induced_deps.specs.Rounds.{HasRow, IsAtSymbol, IsBit, IsProjected, IsReady, OfPlaces, OfRows, Tells, room, room_of_all, rows_of};
 ghost use Rattle.induced_deps.specs.Vertices.{AreWithin};
 
 use crate::closure::Closure;
 use crate::direct::{attributes_of, vertices_of};
+use crate::due::Due;
 use crate::graph::Place;
 use flat_grammar::bits;
 use lido_base::List;
@@ -84,6 +85,7 @@ fn project_place(place: Place, closure: &Closure, ids: &mut [List<u128>]) -> boo
     requires small { length closure.now.rows.items ≤ 1024 }
     ensures sizes { map length ids.new ≡ map length ids.old }
     ensures bits { (x a b : ℕ) → IsBit (rows_of ids.new x) a b ↔ (IsBit (rows_of ids.old x) a b ⊎ IsAtSymbol place closure.now.rows.items x a b) }
+    ensures others { (x : ℕ) → x ≢ place.symbol.0 → rows_of ids.new x ≡ rows_of ids.old x }
     ensures same { IsFalse result → ids.new ≡ ids.old }
     ensures lighter { room_of_all ids.new ≤ room_of_all ids.old }
     ensures less { IsTrue result → room_of_all ids.new < room_of_all ids.old }
@@ -92,21 +94,47 @@ fn project_place(place: Place, closure: &Closure, ids: &mut [List<u128>]) -> boo
     project_at(place, closure, rows.items.as_mut_slice())
 }
 
-/// Puts the edges between vertices of one place into the rows of the symbols, and tells whether any was new.
-pub fn project(places: &[Place], closure: &Closure, ids: &mut [List<u128>]) -> bool
+/// Puts the edges between the vertices of a place into the rows of its symbol. Where any was new, all rules that have the symbol
+/// are to be visited.
+fn feed(place: Place, closure: &Closure, ids: &mut [List<u128>], due: &mut Due) -> bool
+    requires rows { HasRow ids.old place }
+    requires within { place.offset + place.width ≤ length closure.now.rows.items }
+    requires small { length closure.now.rows.items ≤ 1024 }
+    requires ready { IsReady ids.old due.old }
+    ensures sizes { map length ids.new ≡ map length ids.old }
+    ensures bits { (x a b : ℕ) → IsBit (rows_of ids.new x) a b ↔ (IsBit (rows_of ids.old x) a b ⊎ IsAtSymbol place closure.now.rows.items x a b) }
+    ensures tells { Tells due.old due.new ids.old ids.new }
+    ensures same { IsFalse result → ids.new ≡ ids.old }
+    ensures still { IsFalse result → due.new ≡ due.old }
+    ensures lighter { room_of_all ids.new ≤ room_of_all ids.old }
+    ensures less { IsTrue result → room_of_all ids.new < room_of_all ids.old }
+{
+    if !project_place(place, closure, ids) {
+        return false;
+    }
+    due.grown(place.symbol);
+    true
+}
+
+/// Puts the edges between vertices of one place into the rows of the symbols, and tells whether any was new. All rules that have
+/// a symbol whose rows grew are to be visited.
+pub fn project(places: &[Place], closure: &Closure, ids: &mut [List<u128>], due: &mut Due) -> bool
     requires rows { All (HasRow ids.old) places.now }
     requires within { AreWithin places.now (length closure.now.rows.items) }
     requires small { length closure.now.rows.items ≤ 1024 }
+    requires ready { IsReady ids.old due.old }
     ensures sizes { map length ids.new ≡ map length ids.old }
     ensures sound { (x a b : ℕ) → IsBit (rows_of ids.new x) a b → IsBit (rows_of ids.old x) a b ⊎ IsProjected places.now closure.now.rows.items x a b }
+    ensures tells { Tells due.old due.new ids.old ids.new }
     ensures same { IsFalse result → ids.new ≡ ids.old }
+    ensures still { IsFalse result → due.new ≡ due.old }
     ensures all { IsFalse result → (x a b : ℕ) → IsProjected places.now closure.now.rows.items x a b → IsBit (rows_of ids.new x) a b }
     ensures lighter { room_of_all ids.new ≤ room_of_all ids.old }
     ensures less { IsTrue result → room_of_all ids.new < room_of_all ids.old }
 {
     let mut grew = false;
     for place in places {
-        if project_place(*place, closure, ids) {
+        if feed(*place, closure, ids, due) {
             grew = true;
         }
     }

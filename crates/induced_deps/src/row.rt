@@ -1,7 +1,8 @@
 //! Sets of vertices of a rule, of which there are at most 1,024.
-ghost use Rattle.std.specs.Prelude.{◌≡◌, ◌<◌, ◌↔◌, ◌⊎◌, ℕ, IsTrue};
+ghost use Rattle.std.specs.Prelude.{◌≡◌, ◌+◌, ◌-◌, ◌/◌, ◌%◌, ◌<◌, ◌≤◌, ◌↔◌, ◌⊎◌, ℕ, IsTrue, IsBitSet, slice_index};
 ghost use Rattle.induced_deps.specs.Rows.{IsIn, IsPart};
 
+use crate::words::{moved_down, moved_up};
 use flat_grammar::bits;
 
 /// How many words a row has.
@@ -56,5 +57,40 @@ impl Row {
             }
         }
         true
+    }
+
+    /// The word at a place, and one without bits behind the last.
+    fn word(&self, i: usize) -> u128
+        ensures { result ≡ slice_index self.now.words i }
+    {
+        self.words.get(i).copied().unwrap_or(0)
+    }
+
+    /// Puts the bits of a word in at a place, if there is one.
+    fn put(&mut self, i: usize, word: u128)
+        ensures { (j : ℕ) → IsIn self.new.words j ↔ (IsIn self.old.words j ⊎ ((j / 128 ≡ i) × (i < 8) × IsBitSet word (j % 128))) }
+    {
+        if i < WORDS {
+            self.words[i] = bits::union(self.words[i], word);
+        }
+    }
+
+    /// The set of the numbers of a word, each so much greater. Those from 1,024 on are left out.
+    pub fn from_word(word: u128, by: usize) -> Row
+        ensures { (j : ℕ) → IsIn result.words j ↔ ((j < 1024) × (by ≤ j) × IsBitSet word (j - by)) }
+    {
+        let mut row = Row::new();
+        row.put(by / 128, moved_up(word, by % 128));
+        row.put(by / 128 + 1, moved_down(word, 128 - by % 128));
+        row
+    }
+
+    /// The numbers from this one on, so much smaller, as far as a word goes.
+    pub fn window(&self, from: usize) -> u128
+        ensures { (b : ℕ) → IsBitSet result b ↔ ((b < 128) × IsIn self.now.words (from + b)) }
+    {
+        let low = moved_down(self.word(from / 128), from % 128);
+        let high = moved_up(self.word(from / 128 + 1), 128 - from % 128);
+        bits::union(low, high)
     }
 }

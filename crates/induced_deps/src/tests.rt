@@ -3,6 +3,7 @@ ghost use Rattle.std.specs.Prelude.{◌≡◌, ◌+◌, ◌<◌, ◌≤◌, [], 
 ghost use Rattle.induced_deps.specs.Rows.{IsTransitive};
 
 use crate::closure::Closure;
+use crate::due::Due;
 use crate::graph::Place;
 use crate::rounds::{add_induced, project};
 use crate::row::Row;
@@ -70,9 +71,12 @@ fn a_full_rule(rt: HostRuntime) -> Result<(), Fail> {
     let rows = full_rows(alloc)?;
     let mut ids = Vec::new(alloc);
     ids.push(List::from_vec(rows))?;
+    let mut users = Vec::new(alloc);
+    users.push(List::new(alloc))?;
+    let mut due = Due::all(alloc, users, 1)?;
     let start = Instant::now(&rt)?;
     add_induced(&places, &ids, &mut closure);
-    assert!(rt; !project(&places, &closure, &mut ids));
+    assert!(rt; !project(&places, &closure, &mut ids, &mut due));
     assert!(rt; start.elapsed(&rt)?.as_secs() < 10);
     assert!(rt; closure.has(1023, 896));
     assert!(rt; !closure.has(1023, 895));

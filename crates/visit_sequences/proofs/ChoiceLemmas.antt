@@ -1,8 +1,9 @@
 -- What the tests of the progress say of the construction's choice.
 use Rattle.std.specs.Prelude.{All, Contains, slice_get, slice_index, map, IsSome, IsBitSet, ◌↔◌, MatchOption, take, IsTrue, IfOk}
-use Rattle.std.proofs.Common.{◌≡◌, ℕ, zero, suc, ◌<◌, ◌≤◌, ◌+◌, ◌⊎◌, inl, inr, List, [], ◌∷◌, length, get_or, Option, Some, Result, Ok, Err, refl, arith, ap, sym, subst, ◌∙◌}
+use Rattle.std.proofs.Common.{◌≡◌, ℕ, zero, suc, ◌<◌, ◌≤◌, ◌+◌, ◌⊎◌, inl, inr, List, [], ◌∷◌, ◌++◌, length, get_or, Option, Some, Result, Ok, Err, refl, arith, ap, sym, subst, ◌∙◌}
 use Rattle.std.proofs.lemmas.Bool.{cases_lt}
 use Rattle.std.proofs.lemmas.Option.{slice_get_within, slice_get-get_or}
+use Rattle.std.proofs.lemmas.List.{get_or_past}
 use Rattle.std.proofs.lemmas.List.Elements.{All-contains, All-weaker}
 use Rattle.lido_base.specs.declared.ids.SymId.{SymId}
 use Rattle.lido_base.specs.declared.ids.AttrId.{AttrId}
@@ -20,15 +21,16 @@ use Rattle.flat_grammar.specs.WellFormed.{IsWellFormed}
 use Rattle.flat_grammar.specs.Dependencies.{DP, IDS}
 use Rattle.flat_grammar.specs.Cycles.{EDP, direct, induced, partition, IsAtMost}
 use Rattle.flat_grammar.specs.Partition.{IsEarlier, AreAllVisits}
-use Rattle.flat_grammar.specs.SoundPlan.{goals_of, segment_after, IsEvaluated, IsEvaluatedAll, IsClassAt, IsAtHand}
+use Rattle.flat_grammar.specs.SoundPlan.{goals_of, segment_after, visits_made, IsEvaluated, IsEvaluatedAll, IsClassAt, IsAtHand}
 use Rattle.flat_grammar.specs.Construction.{IsReady, IsNext, IsReadyVisit, IsLastSegment, IsOwing, HasReady, HasReadyVisit, HasNext, IsChosen, evaluation, ready_visit, next_visit, leave}
 use Rattle.flat_grammar.proofs.Lists.{held, contains-nil, contains-cons, contains-first, contains-later}
 use Rattle.visit_sequences.specs.declared.goals.Goal.{Goal}
 use Rattle.visit_sequences.specs.declared.progress.Progress.{Progress}
-use Rattle.visit_sequences.specs.Steps.{row_of, IsBefore, IsGoal, AreGoals, HasBit, Follows, IsOpen, HasAll, IsReadyAt, IsNextAt, Owes, IsLeastChild, IsNoChild}
+use Rattle.visit_sequences.specs.Steps.{row_of, IsBefore, IsGoal, AreGoals, HasBit, Follows, IsOpen, HasAll, IsReadyAt, IsNextAt, AreOver, Owes, IsLeastChild, IsNoChild}
 use Rattle.visit_sequences.proofs.Classes.{row-there}
 use Rattle.visit_sequences.proofs.Occurrences.{rule-is}
 use Rattle.visit_sequences.proofs.StepLemmas.{row-class, class-row}
+use Rattle.visit_sequences.proofs.Soundness.{visits-append}
 
 -- a goal of the list, and the list's entry of a goal
 goal-entry : (goals : List Goal) (o : Occ) → Contains (map (λ (g : Goal). g.goal) goals) o → (g : Goal) × Contains goals g × (g.goal ≡ o)
@@ -204,6 +206,22 @@ none-more P k none one j pos h p = elim (cases_lt k j) [ inl l ↦ (let e : j �
 -- the first child is the least
 pub first-child : (r : FlatRule) (P : ℕ → Type 0) (k : ℕ) → k < length r.right → ((j : ℕ) → 0 < j → j ≤ k → P j → ⊥) → P (k + 1) → IsLeastChild r P (k + 1)
 first-child r P k h none here = ((omega arith), (omega (arith, h)), here, (λ j pos p. elim (cases_lt k j) [ inl l ↦ omega (arith, l) | inr g ↦ absurd (none j pos g p) ]))
+
+-- a child whose next visit is ready has a visit left
+pub ready-next : (visits : List (List VisitClass)) (r : FlatRule) (p : Progress) (k : ℕ) → IsReadyAt visits r p k → IsNextAt visits r p k
+ready-next visits r p k h = slice_get_within (row_of visits r k) (slice_index p.made.items k) h.0 h.1
+
+-- a child that has no visit left has none behind one more item
+pub over-stays : (visits : List (List VisitClass)) (r : FlatRule) (old new : Progress) (item : PlanItem) → Follows visits r old → Follows visits r new → new.items.items ≡ old.items.items ++ item ∷ [] → (n : ℕ) → AreOver visits r old n → AreOver visits r new n
+over-stays visits r old new item before after items n over k pos within left = elim (cases_lt k (length (symbols_of r))) [
+  | inl inside ↦ (let a = before.made k inside in
+      let b = after.made k inside in
+      let c = ap (λ l. visits_made l k) items ∙ visits-append k old.items.items (item ∷ []) in
+      over k pos within (omega arith))
+  | inr past ↦ (let a = get_or_past old.made.items k 0 (let e = before.each_made in omega arith) in
+      let b = get_or_past new.made.items k 0 (let e = after.each_made in omega arith) in
+      over k pos within (omega arith))
+]
 
 -- the list is empty where its length is not above 0
 pub empty-list : {X : Type 0} (xs : List X) → length xs ≤ 0 → xs ≡ []

@@ -117,6 +117,10 @@ module _ (visits : List (List VisitClass)) (r : FlatRule) (p : Progress) where
   abbrev pub IsNextAt : ℕ → Type 0
   IsNextAt k = slice_index p.made.items k < length (row_of visits r k)
 
+  -- none of so many children, from the first on, has a visit left
+  abbrev pub AreOver : ℕ → Type 0
+  AreOver n = (k : ℕ) → 0 < k → k ≤ n → ¬ IsNextAt k
+
   -- the present visit still owes something
   abbrev pub Owes : List Goal → Type 0
   Owes goals = OwesClass (row_of visits r 0) p ⊎ ((p.segment ≡ length (row_of visits r 0)) × HasLeft goals p)

@@ -6,7 +6,7 @@ ghost use Rattle.flat_grammar.specs.Cycles.{IsAtMost};
 ghost use Rattle.flat_grammar.specs.Partition.{AreAllVisits};
 ghost use Rattle.flat_grammar.specs.declared.plan.PlanItem.TheVariants.{Visit};
 ghost use Rattle.visit_sequences.specs.declared.goals.Goal.{Goal as Waiting};
-ghost use Rattle.visit_sequences.specs.Steps.{AreEvaluated, AreGoals, Follows, HasBit, HasLeft, IsLeastChild, IsLeft, IsNextAt, IsNoChild, IsOfUseFrom, IsOpen, IsReadyAt, Owes, OwesClass, Sorts, row_of};
+ghost use Rattle.visit_sequences.specs.Steps.{AreEvaluated, AreGoals, AreOver, Follows, HasBit, HasLeft, IsLeastChild, IsLeft, IsNextAt, IsNoChild, IsOfUseFrom, IsOpen, IsReadyAt, Owes, OwesClass, Sorts, row_of};
 
 use crate::goals::Goal;
 use crate::progress::Progress;
@@ -15,6 +15,15 @@ use crate::rows::row_at;
 use flat_grammar::bits::has;
 use flat_grammar::{Flat, FlatRule, Occ, Parts, PlanItem, VisitClass};
 use lido_base::{AttrId, List, Memory};
+
+/// Up to where, from the first on, goals and children have nothing left.
+#[derive(Clone, Copy)]
+pub struct Done {
+    /// How many goals are evaluated.
+    pub goals: usize,
+    /// How many children have no visit left.
+    pub children: usize,
+}
 
 /// The least number that is in the one set and not in the other.
 fn least_new(set: u128, old: u128) -> Option<u16>
@@ -158,14 +167,16 @@ impl Progress {
         }
     }
 
-    /// The least child whose next visit is ready and not idle.
-    fn ready_child(&self, visits: &[List<VisitClass>], rule: &FlatRule) -> Option<u16>
-        requires { length rule.now.right < 2 ^ 16 }
+    /// The least child whose next visit is ready and not idle, where so many from the first on have no visit left.
+    fn ready_child(&self, visits: &[List<VisitClass>], rule: &FlatRule, over: usize) -> Option<u16>
+        requires few { length rule.now.right < 2 ^ 16 }
+        requires over { AreOver visits.now rule.now self.now over }
         ensures { MatchOption result (IsNoChild rule.now (IsReadyAt visits.now rule.now self.now)) (IsLeastChild rule.now (IsReadyAt visits.now rule.now self.now)) }
     {
-        for k in 0..rule.right.len() as u16 {
-            if self.is_ready_visit(visits, rule, k + 1) {
-                return Some(k + 1);
+        for k in over..rule.right.len() {
+            let occ = k as u16 + 1;
+            if self.is_ready_visit(visits, rule, occ) {
+                return Some(occ);
             }
         }
         None
@@ -178,17 +189,34 @@ impl Progress {
         self.visits_made(occ) < row_at(visits, rule, occ).len()
     }
 
-    /// The least child that has a visit left.
-    fn next_child(&self, visits: &[List<VisitClass>], rule: &FlatRule) -> Option<u16>
-        requires { length rule.now.right < 2 ^ 16 }
-        ensures { MatchOption result (IsNoChild rule.now (IsNextAt visits.now rule.now self.now)) (IsLeastChild rule.now (IsNextAt visits.now rule.now self.now)) }
+    /// How many children from the first on have no visit left, where so many have none.
+    pub fn over_from(&self, visits: &[List<VisitClass>], rule: &FlatRule, over: usize) -> usize
+        requires few { length rule.now.right < 2 ^ 16 }
+        requires over { AreOver visits.now rule.now self.now over }
+        ensures over { AreOver visits.now rule.now self.now result }
+        ensures stops { result < length rule.now.right → IsNextAt visits.now rule.now self.now (result + 1) }
     {
-        for k in 0..rule.right.len() as u16 {
-            if self.has_next(visits, rule, k + 1) {
-                return Some(k + 1);
+        for k in over..rule.right.len() {
+            let occ = k as u16 + 1;
+            if self.has_next(visits, rule, occ) {
+                return k;
             }
         }
-        None
+        rule.right.len()
+    }
+
+    /// The least child that has a visit left, by how many before it have none.
+    fn next_child(&self, visits: &[List<VisitClass>], rule: &FlatRule, over: usize) -> Option<u16>
+        requires few { length rule.now.right < 2 ^ 16 }
+        requires over { AreOver visits.now rule.now self.now over }
+        requires stops { over < length rule.now.right → IsNextAt visits.now rule.now self.now (over + 1) }
+        ensures { MatchOption result (IsNoChild rule.now (IsNextAt visits.now rule.now self.now)) (IsLeastChild rule.now (IsNextAt visits.now rule.now self.now)) }
+    {
+        if over < rule.right.len() {
+            Some(over as u16 + 1)
+        } else {
+            None
+        }
     }
 
     /// The child that is visited because the present visit owes something.
@@ -197,30 +225,33 @@ impl Progress {
         visits: &[List<VisitClass>],
         rule: &FlatRule,
         goals: &[Goal],
-        done: usize,
+        done: Done,
     ) -> Option<u16>
-        requires all { AreEvaluated self.now goals.now done }
-        requires stops { (g : Waiting) → slice_get goals.now done ≡ Some g → ¬ HasBit self.now.evaluated.items g.goal }
+        requires all { AreEvaluated self.now goals.now done.goals }
+        requires stops { (g : Waiting) → slice_get goals.now done.goals ≡ Some g → ¬ HasBit self.now.evaluated.items g.goal }
         requires few { length rule.now.right < 2 ^ 16 }
+        requires over { AreOver visits.now rule.now self.now done.children }
         ensures { MatchOption result (Owes visits.now rule.now self.now goals.now → IsNoChild rule.now (IsReadyAt visits.now rule.now self.now))
             (λ k. Owes visits.now rule.now self.now goals.now × IsLeastChild rule.now (IsReadyAt visits.now rule.now self.now) k) }
     {
-        if !self.owes(visits, rule, goals, done) {
+        if !self.owes(visits, rule, goals, done.goals) {
             return None;
         }
-        self.ready_child(visits, rule)
+        self.ready_child(visits, rule, done.children)
     }
 
     /// The child that is visited because the last visit goes on.
-    fn last_child(&self, visits: &[List<VisitClass>], rule: &FlatRule) -> Option<u16>
-        requires { length rule.now.right < 2 ^ 16 }
+    fn last_child(&self, visits: &[List<VisitClass>], rule: &FlatRule, over: usize) -> Option<u16>
+        requires few { length rule.now.right < 2 ^ 16 }
+        requires over { AreOver visits.now rule.now self.now over }
+        requires stops { over < length rule.now.right → IsNextAt visits.now rule.now self.now (over + 1) }
         ensures { MatchOption result (self.now.segment ≡ length (row_of visits.now rule.now 0) → IsNoChild rule.now (IsNextAt visits.now rule.now self.now))
             (λ k. (self.now.segment ≡ length (row_of visits.now rule.now 0)) × IsLeastChild rule.now (IsNextAt visits.now rule.now self.now) k) }
     {
         if self.segment != row_at(visits, rule, 0).len() {
             return None;
         }
-        self.next_child(visits, rule)
+        self.next_child(visits, rule, over)
     }
 
     /// The next visit of the child.
@@ -245,7 +276,7 @@ impl Progress {
         rule: &FlatRule,
         goals: &[Goal],
         queue: &Queue,
-        done: usize,
+        done: Done,
     ) -> Result<PlanItem, Memory>
         requires visits { AreAllVisits flat.now.symbols flat.now.rules parts.now.visits }
         requires rule { Contains flat.now.rules rule.now }
@@ -253,8 +284,10 @@ impl Progress {
         requires follows { Follows parts.now.visits rule.now self.now }
         requires sorts { Sorts self.now goals.now queue.now }
         requires few { length queue.now.free.items ≤ 2 ^ 16 }
-        requires all { AreEvaluated self.now goals.now done }
-        requires stops { (g : Waiting) → slice_get goals.now done ≡ Some g → ¬ HasBit self.now.evaluated.items g.goal }
+        requires all { AreEvaluated self.now goals.now done.goals }
+        requires stops { (g : Waiting) → slice_get goals.now done.goals ≡ Some g → ¬ HasBit self.now.evaluated.items g.goal }
+        requires over { AreOver parts.now.visits rule.now self.now done.children }
+        requires next { done.children < length rule.now.right → IsNextAt parts.now.visits rule.now self.now (done.children + 1) }
         ensures { IfOk result (IsChosen flat.now.symbols flat.now.rules parts.now.visits rule.now self.now.items.items) }
     {
         let visits = parts.visits.as_slice();
@@ -264,7 +297,7 @@ impl Progress {
         if let Some(occ) = self.owed_child(visits, rule, goals, done) {
             return self.next_visit(occ);
         }
-        if let Some(occ) = self.last_child(visits, rule) {
+        if let Some(occ) = self.last_child(visits, rule, done.children) {
             return self.next_visit(occ);
         }
         Ok(PlanItem::Leave {

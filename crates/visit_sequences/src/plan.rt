@@ -8,6 +8,7 @@ ghost use Rattle.flat_grammar.specs.SoundPlan.{IsSound};
 ghost use Rattle.flat_grammar.specs.declared.plan.PlanItem.TheVariants.{Leave};
 ghost use Rattle.visit_sequences.specs.Steps.{place_of};
 
+use crate::choice::Done;
 use crate::goals::goals;
 use crate::progress::Progress;
 use crate::queue::Queue;
@@ -55,9 +56,15 @@ fn sequence(
     let mut progress = Progress::start(alloc, flat, parts, rule)?;
     let mut queue = Queue::start(alloc, &progress, &goals)?;
     let mut done = 0;
+    let mut over = 0;
     loop {
         done = progress.evaluated_from(&goals, done);
-        let item = progress.choose(flat, parts, rule, &goals, &queue, done)?;
+        over = progress.over_from(parts.visits.as_slice(), rule, over);
+        let reached = Done {
+            goals: done,
+            children: over,
+        };
+        let item = progress.choose(flat, parts, rule, &goals, &queue, reached)?;
         progress.take(flat, parts, rule, item)?;
         if is_end(item, last) {
             return Ok(List::from_vec(progress.into_items()));

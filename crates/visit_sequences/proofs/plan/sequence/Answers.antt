@@ -6,9 +6,10 @@ use Rattle.flat_grammar.specs.declared.plan.PlanItem.TheVariants.{Leave}
 use Rattle.flat_grammar.specs.declared.plan.VisitClass.{VisitClass}
 use Rattle.flat_grammar.specs.Construction.{IsConstructed}
 use Rattle.flat_grammar.specs.SoundPlan.{segment_after}
-use Rattle.visit_sequences.specs.Steps.{row_of, Sorts, Changes}
+use Rattle.visit_sequences.specs.Steps.{row_of, AreOver, Sorts, Changes}
 use Rattle.visit_sequences.proofs.Classes.{row-there}
 use Rattle.visit_sequences.proofs.Occurrences.{rule-is}
+use Rattle.visit_sequences.proofs.ChoiceLemmas.{over-stays}
 use Rattle.visit_sequences.proofs.MeasureLemmas.{left_over, chosen-drops, still-within, EachChosen, each-more, whole-sequence}
 use Rattle.visit_sequences.proofs.plan.sequence.Goals as goal
 
@@ -34,6 +35,8 @@ loop-queue-preserved c =
           (λ e. true≢false (sym (c.is_end.ensures.1 (e ∙ ap (λ (l : List VisitClass). Leave (length l)) (sym row))) ∙ c.if-is_end.false)));
       sorts = subst (λ l. Sorts c.take.new.self l c.wake.new.self) c.deref-in-loop-queue-3.ensures.value c.in_ok-wake.ensures.sorts;
       done = λ g m. c.in_ok-take.ensures.changes.evaluated g.goal (c.evaluated_from-done.ensures.all g (subst (λ l. Contains (take c.evaluated_from-done.result l) g) (sym c.deref-in-loop-queue.ensures.value) m));
+      over = over-stays visits r c.loop-queue.progress c.take.new.self c.in_ok-item.item c.loop-queue.invariant.follows c.in_ok-take.ensures.follows c.in_ok-take.ensures.items c.over_from-over.result
+          (subst (λ l. AreOver l r c.loop-queue.progress c.over_from-over.result) c.as_slice-in-loop-queue.ensures c.over_from-over.ensures.over);
       few = (let e = c.in_ok-wake.ensures.each in let f = c.loop-queue.invariant.few in omega (arith, e, f));
     }
 
@@ -79,5 +82,6 @@ loop-queue-init c =
       within = omega (arith, e, l, h);
       sorts = subst (λ l. Sorts c.in_ok-progress.progress l c.in_ok-queue.queue) c.deref.ensures.value c.in_ok-queue.ensures.sorts;
       done = λ g m. absurd (contains-nil g m);
+      over = λ k pos within. absurd (omega (arith, pos, within));
       few = first_of (search rules, grind (arith, common_steps));
     }

@@ -1,6 +1,6 @@
 use Rattle.std.proofs.Common.{◌≤◌, ◌^◌, length}
 use Rattle.flat_grammar.specs.SoundPlan.{segment_after}
-use Rattle.visit_sequences.specs.Steps.{row_of, AreEvaluated, Follows, Sorts}
+use Rattle.visit_sequences.specs.Steps.{row_of, AreEvaluated, AreOver, Follows, Sorts}
 use Rattle.visit_sequences.proofs.MeasureLemmas.{EachChosen, left_over}
 use Rattle.visit_sequences.proofs.plan.sequence.Given as goal
 
@@ -12,6 +12,7 @@ invariant-loop-queue l = record {
   within : segment_after l.progress.items.items ≤ length (row_of l.parts.visits l.rule 0);
   sorts : Sorts l.progress l.goals.items l.queue;
   done : AreEvaluated l.progress l.goals.items l.done;
+  over : AreOver l.parts.visits l.rule l.progress l.over;
   few : length l.queue.free.items ≤ 2 ^ 16;
 }
 

@@ -1,6 +1,6 @@
 use Rattle.std.proofs.Common.{sym, true≢false, ◌∙◌, arith}
 use Rattle.visit_sequences.specs.Steps.{IsReadyAt}
-use Rattle.visit_sequences.proofs.ChoiceLemmas.{first-child, none-more}
+use Rattle.visit_sequences.proofs.ChoiceLemmas.{first-child, none-more, ready-next}
 use Rattle.visit_sequences.proofs.progress.Progress.ready_child.Goals as goal
 
 pub returns-then-is_ready_visit : goal.returns-then-is_ready_visit
@@ -11,3 +11,6 @@ loop-k-preserved c = none-more (IsReadyAt c.args.visits.now c.args.rule.now c.ar
 
 pub returns : goal.returns
 returns c = λ j pos h. c.loop-k.invariant j pos (let e = c.len-k-end.ensures in omega arith)
+
+pub loop-k-init : goal.loop-k-init
+loop-k-init c = λ j pos h ready. c.requires.over j pos h (ready-next c.args.visits.now c.args.rule.now c.args.self.now j ready)

@@ -115,12 +115,12 @@ module _ (symbols : List FlatSymbol) (rules : List FlatRule) (shapes : List Shap
         go (inl same) = let new = get_new flat_of f q g at (omega (arith, d.count)) in
             let here : w ≡ m = some_same (sym e ∙ ap (parent_of W) same ∙ up) in
             subst (λ z. IsUpTo symbols rules shapes W G more (flat_of ++ f ∷ []) w (place_of W z) t) (sym same)
-                (subst (λ z. IsUpTo symbols rules shapes W G more (flat_of ++ f ∷ []) z (place_of W n) t) (sym here)
-                (λ shape h among is found. a.link t (ap (parent_of G) (sym new.1) ∙ link) shape h among is (get_earlier flat_of f m h found (omega (arith, low_m, d.count)))))
+            (subst (λ z. IsUpTo symbols rules shapes W G more (flat_of ++ f ∷ []) z (place_of W n) t) (sym here)
+            (λ shape h among is found. a.link t (ap (parent_of G) (sym new.1) ∙ link) shape h among is (get_earlier flat_of f m h found (omega (arith, low_m, d.count)))))
         go (inr on) = let low = on_path_before W suits.tree m q on in let before = parent_before W suits.tree q w e in
             let old = get_earlier flat_of f q g at (omega (arith, low_m, d.count)) in
             kept_up_to w t (place_of W q) (omega (arith, low_m)) (λ same. omega arith)
-                (d.edges q w g t on e old (sym (a.grows.parents g (flat_inside q g old)) ∙ link))
+            (d.edges q w g t on e old (sym (a.grows.parents g (flat_inside q g old)) ∙ link))
 
     -- the draft with the node
     pub attached_draft : IsDraft symbols rules shapes W G more (flat_of ++ f ∷ []) (suc v) n f 0
@@ -201,7 +201,7 @@ module _ (symbols : List FlatSymbol) (rules : List FlatRule) (shapes : List Shap
         edges q w g s on e found link = λ shape h among is found_w.
             let low = on_path_before W suits.tree m q on in let before = parent_before W suits.tree q w e in
             up_to_grows symbols rules shapes W F node_of d.numbered.each_node m G more a.grows (cell_of symbols rules shape) w (λ same. omega arith) shape.list h (place_of W q) s (of_own w h found_w)
-                (d.edges q w g s on e found (sym (a.grows.parents g (flat_inside q g found)) ∙ link) shape h among is found_w)
+            (d.edges q w g s on e found (sym (a.grows.parents g (flat_inside q g found)) ∙ link) shape h among is found_w)
 
         closed : (w : ℕ) → w < v → (IsOnPath W p w → ⊥) → ((nat_eq w m ≡ true) × (w ≡ m)) ⊎ ((nat_eq w m ≡ false) × (w ≡ m → ⊥)) → IsWhole symbols rules shapes W G more flat_of w
         closed w low off (inl same) = subst (λ z. IsWhole symbols rules shapes W G more flat_of z) (sym same.1) a.whole

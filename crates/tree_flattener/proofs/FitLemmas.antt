@@ -100,8 +100,6 @@ module _ (texts : List (List ℕ)) where
         differ : IsTrue (not (is_some x.terminal)) → ⊥
         differ h = false_true (sym (ap (λ o. not (is_some o)) is) ∙ h)
 
-
-
     child_of : (s : SymId) → IsTrue (is_nonterminal symbols s) → (x : Item Value) (y : Item Plain) → plain_item texts x ≡ y → IsItem symbols rules shapes root (plain_tree texts W) s y → (c : ℕ) × (x ≡ Child c) × HasSymbol symbols rules shapes root (plain_tree texts W) c s
     child_of s non (Child c) y e (node {c = d} h) = (c, refl, subst (λ z. HasSymbol symbols rules shapes root (plain_tree texts W) z s) (same_child c d e) h)
     child_of s non (Leaf v) y e (node {c = d} h) = absurd (leaf_child (plain texts v) d e)
@@ -139,4 +137,4 @@ module _ (texts : List (List ℕ)) where
                 let number : i0 ≡ i = some_same (sym e0 ∙ rule_at-plain W c ∙ e) in
                 let same : r0 ≡ r = some_same (sym got0 ∙ ap (slice_get rules) number ∙ got) in
                 subst (λ z. (i : ℕ) × (q : FlatRule) × (slice_get rules i ≡ Some q) × (q.left ≡ cell_of symbols rules shape) × (q.right ≡ z ∷ cell_of symbols rules shape ∷ [])) (sym left ∙ ap (λ (z : FlatRule). z.left) same)
-                    (element_has_rule symbols rules shapes root well shape among list s m)
+                (element_has_rule symbols rules shapes root well shape among list s m)

@@ -89,7 +89,11 @@ pub fn flatten(alloc: Global, flat: &Flat, written: Tree) -> Result<Trees, TreeF
     ensures flat { IfOk result (λ trees. IsFlatTree flat.now.symbols flat.now.rules flat.now.shapes written trees.flat trees.node_of) }
 {
     let draft = flat_tree(alloc, flat, &written)?;
-    let Draft { flat: tree, node_of, .. } = draft;
+    let Draft {
+        flat: tree,
+        node_of,
+        ..
+    } = draft;
     Ok(Trees {
         written,
         flat: tree,

@@ -3,12 +3,12 @@ ghost use Rattle.std.specs.Prelude.{◌≡◌, IfOk};
 ghost use Rattle.trials_of_grammar.specs.CrossedUses.{symbols as two_symbols, shapes as two_shapes, X_rule};
 ghost use Rattle.trials_of_dependencies.specs.EmptyText.{rules as two_rules, S_rule};
 
-use trials_of_plans::parts::{
-    attribute, computation, occurrence, one, plain_shape, rule, symbol, three, two,
-};
 use flat_grammar::{Flat, FlatExpr, FlatRule, FlatSymbol, Shape};
 use lido_base::{Kind, List, Memory, SymId, Value, ValueType};
 use std::alloc::Global;
+use trials_of_plans::parts::{
+    attribute, computation, occurrence, one, plain_shape, rule, symbol, three, two,
+};
 
 /// S with $out, X with i and s.
 fn symbols(alloc: Global) -> Result<List<FlatSymbol>, Memory>

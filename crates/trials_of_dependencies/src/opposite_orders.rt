@@ -2,12 +2,12 @@
 ghost use Rattle.std.specs.Prelude.{◌≡◌, IfOk};
 ghost use Rattle.trials_of_dependencies.specs.OppositeOrders.{symbols as two_symbols, rules as three_rules, shapes as three_shapes, out_of_S, X_rule, A_rule, B_rule};
 
-use trials_of_plans::parts::{
-    attribute, computation, occurrence, one, plain_shape, rule, symbol, three, two,
-};
 use flat_grammar::{Flat, FlatComp, FlatExpr, FlatRule, FlatSymbol, Shape};
 use lido_base::{Kind, List, Memory, SymId, Value, ValueType};
 use std::alloc::Global;
+use trials_of_plans::parts::{
+    attribute, computation, occurrence, one, plain_shape, rule, symbol, three, two,
+};
 
 /// X with s1, i1, s2 and i2; S with $out.
 fn symbols(alloc: Global) -> Result<List<FlatSymbol>, Memory>

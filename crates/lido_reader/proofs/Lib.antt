@@ -14,3 +14,8 @@ pub mod WholeLemmas
 pub mod RenamingLemmas
 pub mod SameSpecificationLemmas
 pub mod SamePlaceLemmas
+pub mod SureLemmas
+pub mod SurePlacesLemmas
+pub mod SureExpressionsLemmas
+pub mod SureComputationsLemmas
+pub mod SureItemsLemmas

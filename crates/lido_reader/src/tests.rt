@@ -400,9 +400,7 @@ fn eight_mebibytes(rt: HostRuntime) -> Result<(), Fail> {
         text.extend_from_slice(behind)?;
         let start = Instant::now(&rt)?;
         assert_eq!(rt; read(alloc, text.as_slice())?, Ok(rules), "at {begins:?}");
-        let seconds = start.elapsed(&rt)?.as_secs();
-        assert!(rt; seconds < 20);
-        println!(rt; "{begins:?}: {seconds} s")?;
+        assert!(rt; start.elapsed(&rt)?.as_secs() < 20, "at {begins:?}");
     }
     Ok(())
 }

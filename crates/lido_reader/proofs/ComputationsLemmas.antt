@@ -30,7 +30,7 @@ use Rattle.lido_reader.proofs.ExpressionsLemmas.{option_wider, follows_wider}
 -- ---- what the alternatives begin with
 
 -- no place is begun by such a word
-place_apart : (words : Keyword → Option Place) (k : Keyword) (us vs ws : List Token) (q : ℕ × Place) (t : Token) → words k ≡ None → IsPlace words us q vs → Keys k us t ws → ⊥
+pub place_apart : (words : Keyword → Option Place) (k : Keyword) (us vs ws : List Token) (q : ℕ × Place) (t : Token) → words k ≡ None → IsPlace words us q vs → Keys k us t ws → ⊥
 place_apart words k us vs ws q t none p n = go us vs ws t q p n
   where
     by_name : (us a ws : List Token) (m : Name) (t : Token) → IsName us m a → Keys k us t ws → ⊥
@@ -43,7 +43,7 @@ place_apart words k us vs ws q t none p n = go us vs ws t q p n
     go us a ws t q (named h) n = by_name us h.between ws h.value t h.first n
     go us a ws t q (by_word h) n = by_context us a ws q t h n
 
-keys_apart : (k j : Keyword) (us a ws : List Token) (u t : Token) → (k ≡ j → ⊥) → Keys k us u a → Keys j us t ws → ⊥
+pub keys_apart : (k j : Keyword) (us a ws : List Token) (u t : Token) → (k ≡ j → ⊥) → Keys k us u a → Keys j us t ws → ⊥
 keys_apart k j us a ws u t differs (token d) (token f) = differs (cc)
 
 -- the same token leads both
@@ -120,10 +120,10 @@ pub dependencies_wider : IsWider is_option continues_dependencies
 dependencies_wider [] h = h
 dependencies_wider (u ∷ us) h = or_right (is_comma u) (is_option u) h
 
-comma_in_list : (t : Token) → t.what ≡ kind.Sign sign.Comma → IsTrue (continues_dependencies t)
+pub comma_in_list : (t : Token) → t.what ≡ kind.Sign sign.Comma → IsTrue (continues_dependencies t)
 comma_in_list t d = rw d refl
 
-further_stops : (f : Expr × ℕ → List Expr × ℕ) → Stops is_option continues_dependencies (λ x. AreMoreDependencies (f x))
+pub further_stops : (f : Expr × ℕ → List Expr × ℕ) → Stops is_option continues_dependencies (λ x. AreMoreDependencies (f x))
 further_stops f a us vs all h g = go (f a) us vs all h g
   where
     go : (found : List Expr × ℕ) (us vs : List Token) (all : List Expr × ℕ) → AreMoreDependencies found us all vs → GoesOn is_option us → GoesOn continues_dependencies vs
@@ -177,7 +177,7 @@ module _ (found : List Expr × ℕ) where
 -- ---- one dependency, or several in parentheses
 
 -- no dependency is begun by a parenthesis
-dependency_apart : (s : ℕ) (us vs ws : List Token) (x : Expr × ℕ) (t : Token) → IsDependency s us x vs → Signs sign.ParenOpen us t ws → ⊥
+pub dependency_apart : (s : ℕ) (us vs ws : List Token) (x : Expr × ℕ) (t : Token) → IsDependency s us x vs → Signs sign.ParenOpen us t ws → ⊥
 dependency_apart s us vs ws x t d n = go us vs ws x t d n
   where
     by_name : (us a ws : List Token) (m : Name) (t : Token) → IsName us m a → Signs sign.ParenOpen us t ws → ⊥
@@ -302,7 +302,7 @@ module _ (texts : List (List ℕ)) (number : ℕ) where
   Put_out t = Then (Signs sign.ParenOpen) (λ opening. Then (IsValue texts number) (λ value. Then (Signs sign.ParenClose) (λ closing. Then (AreAfter value.1.number) (λ after.
       Done (record { at = t.from; number = number; target = target.Out; value = value.0; after = after.0 }, after.1)))))
 
-  target_apart : (us vs ws : List Token) (x : ℕ × Target) (t : Token) → IsTarget us x vs → Keys key.PtgOut us t ws → ⊥
+  pub target_apart : (us vs ws : List Token) (x : ℕ × Target) (t : Token) → IsTarget us x vs → Keys key.PtgOut us t ws → ⊥
   target_apart us vs ws x t (grammar.attribute h) n = place_apart in_targets key.PtgOut us h.between ws h.value t refl h.first n
   target_apart us vs ws x t (grammar.chain_start h) n = keys_apart key.Chainstart key.PtgOut us h.between ws h.value t (λ d. cc) h.first n
 

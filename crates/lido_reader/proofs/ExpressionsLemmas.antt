@@ -79,7 +79,7 @@ not_tighter k f t e h = let both : IsTrue (is_at_least (suc k) (Some (k, f)) || 
     go true d h = let below : suc k ≤ k = leb-true (suc k) k d in omega arith
     go false d h = cc
 
-at_level : (k : ℕ) (f : List ℕ) (t : Token) → infix_of t.what ≡ Some (k, f) → IsTrue (continues k t)
+pub at_level : (k : ℕ) (f : List ℕ) (t : Token) → infix_of t.what ≡ Some (k, f) → IsTrue (continues k t)
 at_level k f t e = rw e (rw (le-leb k k (omega arith)) refl)
 
 -- ---- names of functions
@@ -93,7 +93,7 @@ module _ (texts : List (List ℕ)) (distinct : IsDistinctTexts texts) where
           let places : m.at ≡ n.at = a ∙ sym e in
           ap (λ (z : ℕ). record { at = z; id = m.id }) places ∙ ap (λ (z : ℕ). record { at = n.at; id = record { 0 = z } }) ids
 
-  call_of : (f : List ℕ) (t : ℕ) (args : List Expr) (x : Expr) → IsCall texts f t args x → (n : Name) × (n.at ≡ t) × (slice_get texts n.id.0 ≡ Some f) × (x ≡ expr.Call n args)
+  pub call_of : (f : List ℕ) (t : ℕ) (args : List Expr) (x : Expr) → IsCall texts f t args x → (n : Name) × (n.at ≡ t) × (slice_get texts n.id.0 ≡ Some f) × (x ≡ expr.Call n args)
   call_of f t args x (id, d, q) = (record { at = t; id = id }, refl, d, q)
 
   call_is : (f : List ℕ) (t : ℕ) (args : List Expr) (n : Name) → n.at ≡ t → slice_get texts n.id.0 ≡ Some f → IsCall texts f t args (expr.Call n args)
@@ -125,7 +125,7 @@ module _ (texts : List (List ℕ)) where
   Led start.Word s t us x vs = Then IsName (λ n. IsNamed texts s n) (t ∷ us) x vs
   Led start.Other s t us x vs = ⊥
 
-  constant_start : (at : ℕ) (k : TokenKind) (x : Expr) → constant_of at k ≡ Some x → start_of k ≡ start.Constant
+  pub constant_start : (at : ℕ) (k : TokenKind) (x : Expr) → constant_of at k ≡ Some x → start_of k ≡ start.Constant
   constant_start at (kind.Int n) x d = refl
   constant_start at (kind.Str n) x d = refl
   constant_start at (kind.Key key.True) x d = refl
@@ -135,7 +135,7 @@ module _ (texts : List (List ℕ)) where
   constant_start at (kind.Word _) x d = cc
   constant_start at (kind.Literal _) x d = cc
 
-  context_start : (w : Keyword) (q : Place) → in_reads w ≡ Some q → start_of (kind.Key w) ≡ start.Context
+  pub context_start : (w : Keyword) (q : Place) → in_reads w ≡ Some q → start_of (kind.Key w) ≡ start.Context
   context_start key.Tail q d = refl
   context_start key.Synt q d = refl
   context_start key.Inh q d = refl
@@ -306,10 +306,10 @@ module _ (texts : List (List ℕ)) where
   pub primary_completable : (s : Counts) → Completable (IsPrimary texts s)
   primary_completable s = int_completable s
 
-  led_by : (s : Counts) (t : Token) (us vs : List Token) (x : Expr × Counts) (w : Start) → start_of t.what ≡ w → IsPrimary texts s (t ∷ us) x vs → Led w s t us x vs
+  pub led_by : (s : Counts) (t : Token) (us vs : List Token) (x : Expr × Counts) (w : Start) → start_of t.what ≡ w → IsPrimary texts s (t ∷ us) x vs → Led w s t us x vs
   led_by s t us vs x w d n = subst (λ z. Led z s t us x vs) d (heads s t us vs x n)
 
-  spent_same : (s q r : Counts) (t : Token) (us vs : List Token) (x : Expr × Counts) → spent s ≡ Some q → spent s ≡ Some r → IsCounted texts t q us x vs → IsCounted texts t r us x vs
+  pub spent_same : (s q r : Counts) (t : Token) (us vs : List Token) (x : Expr × Counts) → spent s ≡ Some q → spent s ≡ Some r → IsCounted texts t q us x vs → IsCounted texts t r us x vs
   spent_same s q r t us vs x f g h = let both : Some q ≡ Some r = sym f ∙ g in let same : q ≡ r = cc in subst (λ z. IsCounted texts t z us x vs) same h
 
   pub counted_leads : (s r : Counts) (t : Token) → start_of t.what ≡ start.Counted → spent s ≡ Some r → (us : List Token) → Leads (IsCounted texts t r) follows us (IsPrimary texts s) follows (t ∷ us)
@@ -434,21 +434,21 @@ module _ (texts : List (List ℕ)) where
 
   -- ---- behind a name
 
-  opening_follows : (t : Token) → t.what ≡ kind.Sign sign.ParenOpen → IsTrue (follows t)
+  pub opening_follows : (t : Token) → t.what ≡ kind.Sign sign.ParenOpen → IsTrue (follows t)
   opening_follows t d = rw d refl
 
-  dot_follows : (t : Token) → t.what ≡ kind.Sign sign.Dot → IsTrue (follows t)
+  pub dot_follows : (t : Token) → t.what ≡ kind.Sign sign.Dot → IsTrue (follows t)
   dot_follows t d = rw d refl
 
   -- a name that ends before a token that continues it
-  bare_before : (k : TokenKind) (s : Counts) (n : Name) (i : Option ℤ) (us vs ws : List Token) (u : Token) (x : Expr × Counts) → ((t : Token) → t.what ≡ k → IsTrue (follows t)) → (k ≡ kind.Sign sign.Dot → ⊥) → Sees k us u ws → IsIndexed texts s n i us x vs → GoesOn follows vs
+  pub bare_before : (k : TokenKind) (s : Counts) (n : Name) (i : Option ℤ) (us vs ws : List Token) (u : Token) (x : Expr × Counts) → ((t : Token) → t.what ≡ k → IsTrue (follows t)) → (k ≡ kind.Sign sign.Dot → ⊥) → Sees k us u ws → IsIndexed texts s n i us x vs → GoesOn follows vs
   bare_before k s n i us vs ws u x going differs (token d) (parts.bare h) = subst (GoesOn follows) (sym h.behind) (going u d)
   bare_before k s n i us vs ws u x going differs (token d) (parts.read h) = absurd (apart u ws h.first.between h.first.value d h.first.first)
     where
       apart : (u : Token) (ws zs : List Token) (v : Token) → u.what ≡ k → Sees (kind.Sign sign.Dot) (u ∷ ws) v zs → ⊥
       apart u ws zs v d (token f) = differs (sym d ∙ f)
 
-  index_before : (k : TokenKind) (us vs ws : List Token) (u : Token) (i : Option ℤ) → (k ≡ kind.Sign sign.BracketOpen → ⊥) → Sees k us u ws → IsIndex us i vs → vs ≡ us
+  pub index_before : (k : TokenKind) (us vs ws : List Token) (u : Token) (i : Option ℤ) → (k ≡ kind.Sign sign.BracketOpen → ⊥) → Sees k us u ws → IsIndex us i vs → vs ≡ us
   index_before k us vs ws u i differs n (absent d) = refl
   index_before k us vs ws u i differs n (present h) = absurd (apart us ws h.between u h.value n h.first)
     where
@@ -464,7 +464,7 @@ module _ (texts : List (List ℕ)) where
       same_opening ts [] t ws (token d) m = absurd m
       same_opening ts (u ∷ us) t ws (token d) m = (u, us, token (ap (λ z. z.what) (sym m) ∙ d))
 
-  spent_called : (s q r : Counts) (n : Name) (us vs : List Token) (x : Expr × Counts) → spent s ≡ Some q → spent s ≡ Some r → IsCalled texts n q us x vs → IsCalled texts n r us x vs
+  pub spent_called : (s q r : Counts) (n : Name) (us vs : List Token) (x : Expr × Counts) → spent s ≡ Some q → spent s ≡ Some r → IsCalled texts n q us x vs → IsCalled texts n r us x vs
   spent_called s q r n us vs x f g h = let both : Some q ≡ Some r = sym f ∙ g in let same : q ≡ r = cc in subst (λ z. IsCalled texts n z us x vs) same h
 
   pub called_leads : (s r : Counts) (n : Name) (ts us : List Token) (t : Token) → spent s ≡ Some r → Signs sign.ParenOpen ts t us → Leads (IsCalled texts n r) follows us (IsNamed texts s n) follows ts
@@ -522,7 +522,7 @@ module _ (texts : List (List ℕ)) where
 
   -- ---- arguments
 
-  prefix_start : (k : TokenKind) (f : List ℕ) → prefix_of k ≡ Some f → start_of k ≡ start.Other
+  pub prefix_start : (k : TokenKind) (f : List ℕ) → prefix_of k ≡ Some f → start_of k ≡ start.Other
   prefix_start (kind.Sign sign.Minus) f d = refl
   prefix_start (kind.Sign sign.Bang) f d = refl
   prefix_start (kind.Sign _) f d = cc
@@ -537,7 +537,7 @@ module _ (texts : List (List ℕ)) where
   expr_no_close k s us vs x (grammar.prefix f d q r) u ws (token c) = let none : None ≡ Some _ = sym (ap prefix_of c) ∙ f in cc
   expr_no_close k s us vs x (grammar.primary q) u ws (token c) = led_by s u ws vs x start.Other (ap start_of c) q
 
-  some_no_close : (s : Counts) (us vs : List Token) (args : List Expr × Counts) → AreSome texts s us args vs → (u : Token) (ws : List Token) → Signs sign.ParenClose us u ws → ⊥
+  pub some_no_close : (s : Counts) (us vs : List Token) (args : List Expr × Counts) → AreSome texts s us args vs → (u : Token) (ws : List Token) → Signs sign.ParenClose us u ws → ⊥
   some_no_close s us vs args (grammar.first {us = a} {e = l} q r) u ws c = expr_no_close 0 s us a l q u ws c
 
   same_close : (ts us : List Token) (t : Token) (ws : List Token) → Signs sign.ParenClose ts t ws → SameHead ts us → (u : Token) × (zs : List Token) × Signs sign.ParenClose us u zs
@@ -573,10 +573,10 @@ module _ (texts : List (List ℕ)) where
   comma_no_operator : (t : Token) → t.what ≡ kind.Sign sign.Comma → IsTrue (continues 0 t) → ⊥
   comma_no_operator t d h = let no_operator = rw d at h in cc
 
-  comma_in_list : (t : Token) → t.what ≡ kind.Sign sign.Comma → IsTrue (continues_list t)
+  pub comma_in_list : (t : Token) → t.what ≡ kind.Sign sign.Comma → IsTrue (continues_list t)
   comma_in_list t d = rw d refl
 
-  further_stops : (f : Expr × Counts → List Expr × Counts) → Stops (continues 0) continues_list (λ x. AreFurther texts (f x))
+  pub further_stops : (f : Expr × Counts → List Expr × Counts) → Stops (continues 0) continues_list (λ x. AreFurther texts (f x))
   further_stops f a us vs all h g = go (f a) us vs all h g
     where
       go : (found : List Expr × Counts) (us vs : List Token) (all : List Expr × Counts) → AreFurther texts found us all vs → GoesOn (continues 0) us → GoesOn continues_list vs
@@ -586,7 +586,7 @@ module _ (texts : List (List ℕ)) where
   further_completable : (found : List Expr × Counts) → Completable (AreFurther texts found)
   further_completable found = ([], found, (λ vs. grammar.last))
 
-  some_from : (s : Counts) (us vs : List Token) (all : List Expr × Counts) → AreSome texts s us all vs → Then (IsExpr texts 0 s) (λ x. AreFurther texts (x.0 ∷ [], x.1)) us all vs
+  pub some_from : (s : Counts) (us vs : List Token) (all : List Expr × Counts) → AreSome texts s us all vs → Then (IsExpr texts 0 s) (λ x. AreFurther texts (x.0 ∷ [], x.1)) us all vs
   some_from s us vs all (grammar.first {us = a} {e = l} q r) = record { value = l; between = a; first = q; rest = r }
 
   first_expression : (s : Counts) (ts : List Token) → Leads (Then (IsExpr texts 0 s) (λ x. AreFurther texts (x.0 ∷ [], x.1))) continues_list ts (AreSome texts s) continues_list ts
@@ -641,12 +641,12 @@ module _ (texts : List (List ℕ)) where
 
   -- ---- operators
 
-  level_from : (k : ℕ) (s : Counts) (ts vs : List Token) (x : Expr × Counts) → k < unary_level → IsExpr texts k s ts x vs → Then (IsExpr texts (suc k) s) (AreOperands texts k) ts x vs
+  pub level_from : (k : ℕ) (s : Counts) (ts vs : List Token) (x : Expr × Counts) → k < unary_level → IsExpr texts k s ts x vs → Then (IsExpr texts (suc k) s) (AreOperands texts k) ts x vs
   level_from k s ts vs x h (grammar.operands {us = a} {l = l} d q r) = record { value = l; between = a; first = q; rest = r }
   level_from k s ts vs x h (grammar.prefix f g q r) = absurd (omega arith)
   level_from k s ts vs x h (grammar.primary q) = absurd (omega arith)
 
-  level_stops : (k : ℕ) → Stops (continues (suc k)) (continues k) (AreOperands texts k)
+  pub level_stops : (k : ℕ) → Stops (continues (suc k)) (continues k) (AreOperands texts k)
   level_stops k l us vs x grammar.no_operator h = looser_wider k us h
   level_stops k l us vs x (grammar.operator {t = t} {function = f} at g q c r) h = absurd (not_tighter k f t at h)
 
@@ -690,7 +690,7 @@ module _ (texts : List (List ℕ)) where
   same_function : (k : ℕ) (f g : List ℕ) → ◌≡◌ {A = Option (ℕ × List ℕ)} (Some (k, g)) (Some (k, f)) → g ≡ f
   same_function k f g d = let pair : ◌≡◌ {A = ℕ × List ℕ} (k, g) (k, f) = cc in ap (λ (z : ℕ × List ℕ). z.1) pair
 
-  same_counts : (q r : Counts) → ◌≡◌ {A = Option Counts} (Some q) (Some r) → q ≡ r
+  pub same_counts : (q r : Counts) → ◌≡◌ {A = Option Counts} (Some q) (Some r) → q ≡ r
   same_counts q r d = cc
 
   operand_of : (k : ℕ) (l : Expr × Counts) (f : List ℕ) (r q : Counts) (t : Token) (us vs a : List Token) (x y : Expr × Counts) (whole : Expr) (g : List ℕ) → ◌≡◌ {A = Option (ℕ × List ℕ)} (Some (k, g)) (Some (k, f)) → ◌≡◌ {A = Option Counts} (Some q) (Some r)
@@ -702,7 +702,7 @@ module _ (texts : List (List ℕ)) where
     rest = record { value = y; between = a; first = subst (λ z. IsExpr texts (suc k) z us y a) (same_counts q r e) i; rest = subst (λ z. AreOperands texts k (z, y.1) a x vs) c.2 j };
   }
 
-  operator_from : (k : ℕ) (l : Expr × Counts) (f : List ℕ) (r : Counts) (t : Token) (us vs : List Token) (x : Expr × Counts) → infix_of t.what ≡ Some (k, f) → spent l.1 ≡ Some r → AreOperands texts k l (t ∷ us) x vs → Operand k f t.from l.0 r us x vs ⊎ GoesOn (continues k) vs
+  pub operator_from : (k : ℕ) (l : Expr × Counts) (f : List ℕ) (r : Counts) (t : Token) (us vs : List Token) (x : Expr × Counts) → infix_of t.what ≡ Some (k, f) → spent l.1 ≡ Some r → AreOperands texts k l (t ∷ us) x vs → Operand k f t.from l.0 r us x vs ⊎ GoesOn (continues k) vs
   operator_from k l f r t us vs x at left grammar.no_operator = inr (at_level k f t at)
   operator_from k l f r t us vs x at left (grammar.operator {r = q} {vs = a} {x = y} {whole = whole} {function = g} bt other i c j) =
       inl (operand_of k l f r q t us vs a x y whole g (sym bt ∙ at) (sym other ∙ left) i c j)
@@ -738,7 +738,7 @@ module _ (texts : List (List ℕ)) where
         rest = record { value = y; between = vs; first = subst (λ z. IsExpr texts unary_level r z y vs) tail (subst (λ z. IsExpr texts unary_level z a y vs) (same_counts q r d) i); rest = with_left whole _ y.1 vs c.2 };
       }
 
-  unary_from : (k : ℕ) (s r : Counts) (f : List ℕ) (t : Token) (ts us vs : List Token) (x : Expr × Counts) → k ≡ unary_level → ts ≡ t ∷ us → prefix_of t.what ≡ Some f → spent s ≡ Some r → IsExpr texts k s ts x vs
+  pub unary_from : (k : ℕ) (s r : Counts) (f : List ℕ) (t : Token) (ts us vs : List Token) (x : Expr × Counts) → k ≡ unary_level → ts ≡ t ∷ us → prefix_of t.what ≡ Some f → spent s ≡ Some r → IsExpr texts k s ts x vs
       → Then (HasFunction texts f t.from) (λ n. Then (IsExpr texts unary_level r) (λ y. Done (expr.Call n (y.0 ∷ []), y.1))) us x vs
   unary_from k s r f t ts us vs x top same at left (grammar.operands d q i) = absurd (omega arith)
   unary_from k s r f t ts us vs x top same at left (grammar.prefix {r = q} {t = u} {us = a} {vs = b} {inner = y} {e = whole} {function = g} bt other i c) =

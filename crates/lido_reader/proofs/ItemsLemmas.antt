@@ -16,7 +16,7 @@ use Rattle.lido_reader.proofs.PhrasesLemmas.{chosen, sees_said, sees_some}
 use Rattle.lido_reader.proofs.PartsLemmas.{Steps, seen_goes, seen_apart, unseen_head}
 
 -- the item's first word is another one
-head_apart : (k : Keyword) → (k ≡ key.Class → ⊥) → (k ≡ key.Symbol → ⊥) → (ts us ws ms : List Token) (t : Token) (h : ℕ × Bool) → Keys k ts t us → SameHead ts ws → IsSymbolHead ws h ms → ⊥
+pub head_apart : (k : Keyword) → (k ≡ key.Class → ⊥) → (k ≡ key.Symbol → ⊥) → (ts us ws ms : List Token) (t : Token) (h : ℕ × Bool) → Keys k ts t us → SameHead ts ws → IsSymbolHead ws h ms → ⊥
 head_apart k a b ts us ws ms t h n s (class p) = seen_apart (kind.Key k) (kind.Key key.Class) (λ e. a (cc)) ts us ws p.between t p.value n s p.first
 head_apart k a b ts us ws ms t h n s (plain p) = seen_apart (kind.Key k) (kind.Key key.Symbol) (λ e. b (cc)) ts us ws p.between t p.value n s p.first
 
@@ -35,7 +35,7 @@ module _ (called : ℕ → StrId) (One : ℕ → List Token → Comp × ℕ → 
   abbrev Item : List Token → Spec × ℕ → List Token → Type 0
   Item = IsFurtherItem called One found
 
-  rule_from : (ts us : List Token) (t : Token) → Keys key.Rule ts t us → (ws vs : List Token) (x : Spec × ℕ) → SameHead ts ws → Item ws x vs → IsRuleItem called One found ws x vs ⊎ GoesOn nothing vs
+  pub rule_from : (ts us : List Token) (t : Token) → Keys key.Rule ts t us → (ws vs : List Token) (x : Spec × ℕ) → SameHead ts ws → Item ws x vs → IsRuleItem called One found ws x vs ⊎ GoesOn nothing vs
   rule_from ts us t n ws vs x s (rule p) = inl p
   rule_from ts us t n ws vs x s (symbol p) = absurd (head_apart key.Rule (λ e. cc) (λ e. cc) ts us ws p.first.between t p.first.value n s p.first.first)
   rule_from ts us t n ws vs x s (attr p) = absurd (seen_apart (kind.Key key.Rule) (kind.Key key.Attr) (λ e. cc) ts us ws p.first.between t p.first.value n s p.first.first)
@@ -46,7 +46,7 @@ module _ (called : ℕ → StrId) (One : ℕ → List Token → Comp × ℕ → 
   pub rule_leads : (ts us : List Token) (t : Token) → Keys key.Rule ts t us → Leads (IsRuleItem called One found) nothing ts Item nothing ts
   rule_leads ts us t n = chosen (IsRuleItem called One found) Item nothing ts (λ us vs x p. rule p) (rule_from ts us t n)
 
-  attr_from : (ts us : List Token) (t : Token) → Keys key.Attr ts t us → (ws vs : List Token) (x : Spec × ℕ) → SameHead ts ws → Item ws x vs → IsAttrItem called One found ws x vs ⊎ GoesOn nothing vs
+  pub attr_from : (ts us : List Token) (t : Token) → Keys key.Attr ts t us → (ws vs : List Token) (x : Spec × ℕ) → SameHead ts ws → Item ws x vs → IsAttrItem called One found ws x vs ⊎ GoesOn nothing vs
   attr_from ts us t n ws vs x s (attr p) = inl p
   attr_from ts us t n ws vs x s (symbol p) = absurd (head_apart key.Attr (λ e. cc) (λ e. cc) ts us ws p.first.between t p.first.value n s p.first.first)
   attr_from ts us t n ws vs x s (rule p) = absurd (seen_apart (kind.Key key.Attr) (kind.Key key.Rule) (λ e. cc) ts us ws p.first.between t p.first.value n s p.first.first)
@@ -57,7 +57,7 @@ module _ (called : ℕ → StrId) (One : ℕ → List Token → Comp × ℕ → 
   pub attr_leads : (ts us : List Token) (t : Token) → Keys key.Attr ts t us → Leads (IsAttrItem called One found) nothing ts Item nothing ts
   attr_leads ts us t n = chosen (IsAttrItem called One found) Item nothing ts (λ us vs x p. attr p) (attr_from ts us t n)
 
-  term_from : (ts us : List Token) (t : Token) → Keys key.Term ts t us → (ws vs : List Token) (x : Spec × ℕ) → SameHead ts ws → Item ws x vs → IsTermItem called One found ws x vs ⊎ GoesOn nothing vs
+  pub term_from : (ts us : List Token) (t : Token) → Keys key.Term ts t us → (ws vs : List Token) (x : Spec × ℕ) → SameHead ts ws → Item ws x vs → IsTermItem called One found ws x vs ⊎ GoesOn nothing vs
   term_from ts us t n ws vs x s (term p) = inl p
   term_from ts us t n ws vs x s (symbol p) = absurd (head_apart key.Term (λ e. cc) (λ e. cc) ts us ws p.first.between t p.first.value n s p.first.first)
   term_from ts us t n ws vs x s (rule p) = absurd (seen_apart (kind.Key key.Term) (kind.Key key.Rule) (λ e. cc) ts us ws p.first.between t p.first.value n s p.first.first)
@@ -68,7 +68,7 @@ module _ (called : ℕ → StrId) (One : ℕ → List Token → Comp × ℕ → 
   pub term_leads : (ts us : List Token) (t : Token) → Keys key.Term ts t us → Leads (IsTermItem called One found) nothing ts Item nothing ts
   term_leads ts us t n = chosen (IsTermItem called One found) Item nothing ts (λ us vs x p. term p) (term_from ts us t n)
 
-  chain_from : (ts us : List Token) (t : Token) → Keys key.Chain ts t us → (ws vs : List Token) (x : Spec × ℕ) → SameHead ts ws → Item ws x vs → IsChainItem called One found ws x vs ⊎ GoesOn nothing vs
+  pub chain_from : (ts us : List Token) (t : Token) → Keys key.Chain ts t us → (ws vs : List Token) (x : Spec × ℕ) → SameHead ts ws → Item ws x vs → IsChainItem called One found ws x vs ⊎ GoesOn nothing vs
   chain_from ts us t n ws vs x s (chain p) = inl p
   chain_from ts us t n ws vs x s (symbol p) = absurd (head_apart key.Chain (λ e. cc) (λ e. cc) ts us ws p.first.between t p.first.value n s p.first.first)
   chain_from ts us t n ws vs x s (rule p) = absurd (seen_apart (kind.Key key.Chain) (kind.Key key.Rule) (λ e. cc) ts us ws p.first.between t p.first.value n s p.first.first)
@@ -79,7 +79,7 @@ module _ (called : ℕ → StrId) (One : ℕ → List Token → Comp × ℕ → 
   pub chain_leads : (ts us : List Token) (t : Token) → Keys key.Chain ts t us → Leads (IsChainItem called One found) nothing ts Item nothing ts
   chain_leads ts us t n = chosen (IsChainItem called One found) Item nothing ts (λ us vs x p. chain p) (chain_from ts us t n)
 
-  symbol_from : (ts : List Token) → Lacks key.Rule ts → Lacks key.Attr ts → Lacks key.Term ts → Lacks key.Chain ts → (ws vs : List Token) (x : Spec × ℕ) → SameHead ts ws → Item ws x vs → IsSymbolItem called One found ws x vs ⊎ GoesOn nothing vs
+  pub symbol_from : (ts : List Token) → Lacks key.Rule ts → Lacks key.Attr ts → Lacks key.Term ts → Lacks key.Chain ts → (ws vs : List Token) (x : Spec × ℕ) → SameHead ts ws → Item ws x vs → IsSymbolItem called One found ws x vs ⊎ GoesOn nothing vs
   symbol_from ts r a t c ws vs x s (symbol p) = inl p
   symbol_from ts r a t c ws vs x s (rule p) = lacking key.Rule ts ws p.first.between p.first.value r s p.first.first
   symbol_from ts r a t c ws vs x s (attr p) = lacking key.Attr ts ws p.first.between p.first.value a s p.first.first

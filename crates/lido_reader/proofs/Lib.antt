@@ -16,3 +16,8 @@ pub mod SilentLemmas
 pub mod RenamingLemmas
 pub mod SameSpecificationLemmas
 pub mod SamePlaceLemmas
+pub mod SureLemmas
+pub mod SurePlacesLemmas
+pub mod SureExpressionsLemmas
+pub mod SureComputationsLemmas
+pub mod SureItemsLemmas

@@ -46,10 +46,10 @@ plain_leads ts none = chosen PlainParts IsSymbolHead nothing ts (λ us vs x p. p
 
 -- ---- classes
 
-comma_continues : (t : Token) → IsTrue (is_comma t) → IsTrue (continues_inherited t)
+pub comma_continues : (t : Token) → IsTrue (is_comma t) → IsTrue (continues_inherited t)
 comma_continues t h = or_right (is_inherits_kind t.what) (is_comma_kind t.what) h
 
-inherits_goes : (ts us : List Token) (t : Token) → Keys key.Inherits ts t us → GoesOn continues_inherited ts
+pub inherits_goes : (ts us : List Token) (t : Token) → Keys key.Inherits ts t us → GoesOn continues_inherited ts
 inherits_goes ts us t n = seen_goes (kind.Key key.Inherits) (λ k. is_inherits_kind k || is_comma_kind k) refl ts us t n
 
 inherited_leads : (ts us : List Token) (t : Token) → Keys key.Inherits ts t us → Leads AreNames is_comma us AreInherited continues_inherited ts
@@ -93,11 +93,11 @@ further_goes : (first : Name) (ts ms us : List Token) (names : List Name) (t : T
 further_goes first ts ms us names t end n = seen_goes (kind.Sign sign.Colon) is_declaring_kind refl ts us t n
 further_goes first ts ms us names t (comma {us = behind} {t = u} n p q) m = seen_goes (kind.Sign sign.Comma) is_declaring_kind refl ts behind u n
 
-declaring_goes : (head : ℕ × Bool) (first : Name) (n : ℕ) (ts us : List Token) (x : SymbolItem × ℕ) → IsDeclaring head first n ts x us → GoesOn is_declaring ts
+pub declaring_goes : (head : ℕ × Bool) (first : Name) (n : ℕ) (ts us : List Token) (x : SymbolItem × ℕ) → IsDeclaring head first n ts x us → GoesOn is_declaring ts
 declaring_goes head first n ts us x p = further_goes first ts p.between p.rest.between p.value p.rest.value p.first p.rest.first
 
 module _ (One : ℕ → List Token → Comp × ℕ → List Token → Type 0) (head : ℕ × Bool) (first : Name) (n : ℕ) where
-  computing_apart : (ts ms us : List Token) (names : List Name) (all : Comps) → AreInherited ts names ms → IsBody One n ms all us → GoesOn is_declaring ts → ⊥
+  pub computing_apart : (ts ms us : List Token) (names : List Name) (all : Comps) → AreInherited ts names ms → IsBody One n ms all us → GoesOn is_declaring ts → ⊥
   computing_apart ts ms us names all (absent e) b g = body_apart One n is_declaring_kind refl refl ts us all b g
   computing_apart ts ms us names all (present p) b g = seen_not (kind.Key key.Inherits) is_declaring_kind refl ts p.between p.value p.first g
 

@@ -8,21 +8,21 @@ use std::test::Fail;
 use std::time::Instant;
 
 /// Specifications, and their trees' main facts; or the place of the fault behind an exclamation mark. A rule shows its place, its
-/// name, its left side, `=` or `~` for a LISTOF, and its elements; a symbol its place, `C` for a class, its names, behind `<` its
+/// name, its left side, `=` or `~` for a LISTOF, and its elements; a symbol or a class its place, its names, behind `<` its
 /// classes, behind `:` its declarations. A declaration shows a letter of its type, and `S`, `I` or `-`. Computations show their
 /// numbers.
 const CASES: [(&[u8], &[u8]); 72] = [
     (b"", b""),
-    (b"RULE r: X ::= A 'b' C END;", b"R0 r X=A 'b' C ; "),
+    (b"RULE r: X ::= A 'b' C END;", b"rule@0 r X=A 'b' C ; "),
     (
         b"RULE : X ::= END; RULE : Y ::= X END;",
-        b"R0 rule_1 X=; R18 rule_2 Y=X ; ",
+        b"rule@0 rule_1 X=; rule@18 rule_2 Y=X ; ",
     ),
     (
         b"RULE a: X ::= END; RULE: Y LISTOF X | Z | X END;",
-        b"R0 a X=; R19 rule_2 Y~X Z X ; ",
+        b"rule@0 a X=; rule@19 rule_2 Y~X Z X ; ",
     ),
-    (b"RULE r: X ::= A COMPUTE END;", b"R0 r X=A ; "),
+    (b"RULE r: X ::= A COMPUTE END;", b"rule@0 r X=A ; "),
     (b"ATTR a, b: int SYNT, c: string;", b"Aa:iS Ab:iS Ac:s- "),
     (
         b"ATTR x: PTGNode INH, y: VOID, z: bool SYNT;",
@@ -30,13 +30,16 @@ const CASES: [(&[u8], &[u8]); 72] = [
     ),
     (b"TERM N: int; TERM M, K: string;", b"TN:i TM:s TK:s "),
     (b"CHAIN c, d: int; CHAIN e: bool;", b"Hc:i Hd:i He:b "),
-    (b"SYMBOL X: a: int SYNT, b: string;", b"S0 X <:a:iS b:s- ; "),
-    (b"SYMBOL X, Y: a: int;", b"S0 X Y <:a:i- ; "),
-    (b"SYMBOL X END;", b"S0 X <:; "),
-    (b"SYMBOL X INHERITS C, D END;", b"S0 X <C D :; "),
-    (b"CLASS SYMBOL C END;", b"S0C C <:; "),
-    (b"CLASS SYMBOL C: a: int;", b"S0C C <:a:i- ; "),
-    (b"SYMBOL X INHERITS C COMPUTE END;", b"S0 X <C :; "),
+    (
+        b"SYMBOL X: a: int SYNT, b: string;",
+        b"symbol@0 X <:a:iS b:s- ; ",
+    ),
+    (b"SYMBOL X, Y: a: int;", b"symbol@0 X Y <:a:i- ; "),
+    (b"SYMBOL X END;", b"symbol@0 X <:; "),
+    (b"SYMBOL X INHERITS C, D END;", b"symbol@0 X <C D :; "),
+    (b"CLASS SYMBOL C END;", b"class@0 C <:; "),
+    (b"CLASS SYMBOL C: a: int;", b"class@0 C <:a:i- ; "),
+    (b"SYMBOL X INHERITS C COMPUTE END;", b"symbol@0 X <C :; "),
     (b"TERM N: bool;", b"!8"),
     (b"TERM N: VOID;", b"!8"),
     (b"TERM N: PTGNode;", b"!8"),
@@ -87,15 +90,15 @@ const CASES: [(&[u8], &[u8]); 72] = [
     (b"TERM N: int; ;", b"!13"),
     (
         b"RULE r: X ::= A COMPUTE X.a = 1; X.b = CONSTITUENTS A.a; X.c = 2; END; RULE: Y ::= X COMPUTE Y.a = X.a; END;",
-        b"R0 r X=A #0 #1 #3 ; R71 rule_2 Y=X #4 ; ",
+        b"rule@0 r X=A #0 #1 #3 ; rule@71 rule_2 Y=X #4 ; ",
     ),
     (
         b"RULE r: X ::= COMPUTE PTGOut(1); END; SYMBOL Y COMPUTE SYNT.a = 1; END;",
-        b"R0 r X=#0 ; S38 Y <:#1 ; ",
+        b"rule@0 r X=#0 ; symbol@38 Y <:#1 ; ",
     ),
     (
         b"SYMBOL X COMPUTE SYNT.a = 1; INH.b = 2 + 3; END;",
-        b"S0 X <:#0 #1 ; ",
+        b"symbol@0 X <:#0 #1 ; ",
     ),
     (b"SYMBOL X COMPUTE ;", b"!17"),
     (b"SYMBOL X COMPUTE TAIL.a = 1; END;", b"!17"),
@@ -177,7 +180,7 @@ fn put_body(shown: &mut Shown, body: &[Comp]) -> Result<(), AllocError> {
 }
 
 fn put_rule(shown: &mut Shown, rule: &RuleItem) -> Result<(), AllocError> {
-    put(shown, b"R")?;
+    put(shown, b"rule@")?;
     put_number(shown, rule.at)?;
     put(shown, b" ")?;
     put_text(shown, rule.name)?;
@@ -199,9 +202,10 @@ fn put_rule(shown: &mut Shown, rule: &RuleItem) -> Result<(), AllocError> {
 }
 
 fn put_symbol(shown: &mut Shown, symbol: &SymbolItem) -> Result<(), AllocError> {
-    put(shown, b"S")?;
+    let word: &[u8] = if symbol.class { b"class@" } else { b"symbol@" };
+    put(shown, word)?;
     put_number(shown, symbol.at)?;
-    put(shown, if symbol.class { b"C " } else { b" " })?;
+    put(shown, b" ")?;
     put_names(shown, symbol.names.as_slice())?;
     put(shown, b"<")?;
     put_names(shown, symbol.inherits.as_slice())?;
@@ -266,27 +270,137 @@ fn specifications_and_their_trees(rt: HostRuntime) -> Result<(), Fail> {
     Ok(())
 }
 
-/// The number of rules of a specification.
-fn rule_count(alloc: Global, text: &[u8]) -> Result<usize, Fail> {
-    if text.len() > 8_388_608 {
-        return Ok(0);
+/// Computations of 1,000 counted tokens: what stands 1,000 times in front of a value, how far into it the token that counts
+/// begins, the value, and what stands 1,000 times behind it.
+const DEEP: [(&[u8], u32, &[u8], &[u8]); 6] = [
+    (b"(", 0, b"1", b")"),
+    (b"-", 0, b"1", b""),
+    (b"1+", 1, b"1", b""),
+    (b"IF(true,", 0, b"1", b",2)"),
+    (b"ORDER(1,", 0, b"1", b")"),
+    (b"f(", 1, b"1", b")"),
+];
+
+fn put_times(out: &mut Vec<u8>, bytes: &[u8], times: u32) -> Result<(), AllocError> {
+    for _ in 0..times {
+        out.extend_from_slice(bytes)?;
     }
-    let mut strings = Strings::new(alloc)?;
-    let tokens = lex(alloc, text, &mut strings)?;
-    let spec = read_spec(alloc, tokens.as_slice(), text.len() as u32, &mut strings)?;
-    Ok(spec.rules.len())
+    Ok(())
+}
+
+/// A rule whose only computation has this value.
+fn computing(
+    alloc: Global,
+    times: u32,
+    front: &[u8],
+    middle: &[u8],
+    behind: &[u8],
+) -> Result<Vec<u8>, AllocError> {
+    let mut text = Vec::new(alloc);
+    text.extend_from_slice(b"RULE r: X ::= COMPUTE X.a = ")?;
+    put_times(&mut text, front, times)?;
+    text.extend_from_slice(middle)?;
+    put_times(&mut text, behind, times)?;
+    text.extend_from_slice(b"; END;")?;
+    Ok(text)
 }
 
 #[test]
-fn rules_of_eight_mebibytes(rt: HostRuntime) -> Result<(), Fail> {
+fn a_thousand_counted_tokens(rt: HostRuntime) -> Result<(), Fail> {
     let alloc = rt.alloc();
-    let line = b"RULE: X ::= A 'b' END;\n";
-    let mut text: Vec<u8> = Vec::new(alloc);
-    for _ in 0..364_000u32 {
-        text.extend_from_slice(line)?;
+    for (front, into, middle, behind) in DEEP {
+        let text = computing(alloc, 1_000, front, middle, behind)?;
+        let found = read(alloc, text.as_slice())?;
+        assert_eq!(rt; found, Ok(1), "{front:?}");
+        let text = computing(alloc, 1_001, front, middle, behind)?;
+        let found = read(alloc, text.as_slice())?;
+        let at = 28 + 1_000 * front.len() as u32 + into;
+        assert_eq!(rt; found, Err(ReadSpecFault::Syntax { at }), "{front:?}");
     }
-    let start = Instant::now(&rt)?;
-    assert_eq!(rt; rule_count(alloc, text.as_slice())?, 364_000);
-    assert!(rt; start.elapsed(&rt)?.as_secs() < 20);
+    Ok(())
+}
+
+/// Specifications that fill eight mebibytes: what begins one, what begins each of its parts, what is in it and how often, what
+/// ends it, how often it stands, what ends the whole, and how many rules there are.
+const LONG: [(&[u8], &[u8], &[u8], u32, &[u8], u32, &[u8], usize); 5] = [
+    (
+        b"",
+        b"RULE: X ::= A 'b' END;\n",
+        b"",
+        0,
+        b"",
+        364_000,
+        b"",
+        364_000,
+    ),
+    (
+        b"RULE: X ::= COMPUTE ",
+        b"X.a=1;",
+        b"",
+        0,
+        b"",
+        1_398_000,
+        b"END;",
+        1,
+    ),
+    (
+        b"RULE: X ::= COMPUTE ",
+        b"X.a=1",
+        b"+1",
+        1_000,
+        b";",
+        4_181,
+        b"END;",
+        1,
+    ),
+    (
+        b"RULE: X ::= COMPUTE ",
+        b"X.a=",
+        b"-",
+        1_000,
+        b"1;",
+        8_338,
+        b"END;",
+        1,
+    ),
+    (
+        b"RULE: X ::= COMPUTE X.a=f(1",
+        b",1",
+        b"",
+        0,
+        b"",
+        4_194_000,
+        b"); END;",
+        1,
+    ),
+];
+
+/// The number of rules of a specification, or its fault.
+fn read(alloc: Global, text: &[u8]) -> Result<Result<usize, ReadSpecFault>, Fail> {
+    if text.len() > 8_388_608 {
+        return Ok(Ok(0));
+    }
+    let mut strings = Strings::new(alloc)?;
+    let tokens = lex(alloc, text, &mut strings)?;
+    let result = read_spec(alloc, tokens.as_slice(), text.len() as u32, &mut strings);
+    Ok(result.map(|spec| spec.rules.len()))
+}
+
+#[test]
+fn eight_mebibytes(rt: HostRuntime) -> Result<(), Fail> {
+    let alloc = rt.alloc();
+    for (front, begins, inner, inner_times, ends, times, behind, rules) in LONG {
+        let mut part = Vec::new(alloc);
+        part.extend_from_slice(begins)?;
+        put_times(&mut part, inner, inner_times)?;
+        part.extend_from_slice(ends)?;
+        let mut text = Vec::new(alloc);
+        text.extend_from_slice(front)?;
+        put_times(&mut text, part.as_slice(), times)?;
+        text.extend_from_slice(behind)?;
+        let start = Instant::now(&rt)?;
+        assert_eq!(rt; read(alloc, text.as_slice())?, Ok(rules), "at {begins:?}");
+        assert!(rt; start.elapsed(&rt)?.as_secs() < 20, "at {begins:?}");
+    }
     Ok(())
 }

@@ -1,14 +1,13 @@
 -- The computations of a rule, goal by goal.
 use Rattle.std.specs.Prelude.{slice_get}
-use Rattle.std.proofs.Common.{◌≡◌, ℕ, zero, suc, ◌+◌, ◌<◌, ◌≤◌, ◌⊎◌, inl, inr, List, [], ◌∷◌, ◌++◌, length, Some, refl, sym, ap, subst, ◌∙◌, arith}
+use Rattle.std.proofs.Common.{◌≡◌, ℕ, ◌+◌, ◌⊎◌, inl, inr, List, [], ◌∷◌, ◌++◌, length, Some, refl, sym, ap, subst, ◌∙◌, arith}
 use Rattle.std.proofs.lemmas.Bool.{cases_lt}
 use Rattle.std.proofs.lemmas.Option.{none-some}
 use Rattle.flat_grammar.specs.declared.flat.Occ.{Occ}
 use Rattle.flat_grammar.specs.declared.flat.FlatComp.{FlatComp}
-use Rattle.flat_grammar.proofs.Lists.{held}
 use Rattle.large_grammars.specs.declared.size.Size.{Size}
-use Rattle.large_grammars.specs.Sizes.{EachAt, IsGoalOf, IsComputation, IsBefore, AreBefore, kind_of, goal_kind}
-use Rattle.large_grammars.proofs.Places.{pushed-get, kept-get, last-get, each-push, each-none}
+use Rattle.large_grammars.specs.Sizes.{IsGoalOf, IsComputation, IsBefore, AreBefore, kind_of, goal_kind}
+use Rattle.large_grammars.proofs.Places.{pushed-get, kept-get, last-get, each-push}
 
 -- the attribute occurrence of these numbers
 abbrev pub occurrence_at : ℕ → ℕ → Occ

@@ -1,7 +1,7 @@
 -- The grammars are well formed.
-use Rattle.std.specs.Prelude.{slice_get, All, AllPairs, Bool, true, false, IsTrue, is_some, not, ◌&&◌, ◌||◌, nat_lt, option_and_then, replicate, sum_by, map, ◌%◌, ◌^◌, if◌then◌else◌}
+use Rattle.std.specs.Prelude.{slice_get, All, AllPairs, Bool, true, false, IsTrue, is_some, not, ◌&&◌, ◌||◌, nat_lt, option_and_then, sum_by, map, ◌%◌, ◌^◌, if◌then◌else◌}
 use Rattle.std.specs.List.{list_any}
-use Rattle.std.proofs.Common.{◌≡◌, ℕ, zero, suc, ◌+◌, ◌-◌, ◌*◌, ◌<◌, ◌≤◌, ◌⊎◌, inl, inr, List, [], ◌∷◌, length, Option, Some, None, refl, sym, ap, subst, ◌∙◌, arith, true≢false, eq-eqb, eqb-true, ltb-true, ltb-false}
+use Rattle.std.proofs.Common.{◌≡◌, ℕ, zero, suc, ◌+◌, ◌-◌, ◌*◌, ◌<◌, ◌≤◌, inl, List, [], ◌∷◌, length, Option, Some, None, refl, sym, ap, subst, ◌∙◌, arith, true≢false, eq-eqb, eqb-true, ltb-true}
 use Rattle.std.proofs.lemmas.Option.{none-some}
 use Rattle.std.proofs.lemmas.List.{length-replicate}
 use Rattle.std.proofs.lemmas.List.Elements.{All-nil, All-contains}

@@ -133,6 +133,9 @@ fn root_of(size: Size) -> SymId
 /// Odd attributes are synthesized.
 pub fn grammar(alloc: Global, size: Size, flow: Flow) -> Result<Flat, AllocError>
     requires { IsWithin size }
+    ensures symbols { IfOk result (λ flat. AreSymbols size flat.symbols) }
+    ensures rules { IfOk result (λ flat. AreRules size flat.rules) }
+    ensures shapes { IfOk result (λ flat. AreShapes size flat.shapes) }
 {
     let symbols = symbols(alloc, size)?;
     let rules = rules(alloc, size, flow)?;

@@ -1,0 +1,27 @@
+//! How large a grammar is, and what its attributes depend on.
+
+/// How large a grammar is. It has no terminals.
+#[derive(Clone, Copy, Debug, PartialEq, Eq)]
+pub struct Size {
+    /// How many symbols it has, one at least.
+    pub symbols: usize,
+    /// How many attributes each symbol has.
+    pub attributes: usize,
+    /// How many rules it has. They take turns through the symbols.
+    pub rules: usize,
+    /// How many symbols are on each right side, one at least.
+    pub children: usize,
+    /// Whether a symbol stands behind its children's, and not before.
+    pub bottom_up: bool,
+}
+
+/// What the attributes depend on.
+#[derive(Clone, Copy, Debug, PartialEq, Eq)]
+pub enum Flow {
+    /// Each is a copy of its neighbour's attribute of the same number: all values go down, and then up.
+    Straight,
+    /// Each inherited attribute but the first needs the synthesized one before it: a visit for each pair.
+    Turns,
+    /// As with turns, and each attribute needs all occurrences of the attribute before it.
+    Dense,
+}

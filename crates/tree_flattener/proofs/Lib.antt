@@ -1,5 +1,6 @@
 pub mod ChainLemmas
 pub mod ClimbLemmas
+pub mod CountLemmas
 pub mod DraftLemmas
 pub mod FitLemmas
 pub mod FormLemmas

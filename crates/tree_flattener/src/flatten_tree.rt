@@ -1,12 +1,14 @@
 //! The flat tree of a written tree that fits the grammar.
-ghost use Rattle.std.specs.Prelude.{◌≡◌, ◌<◌, ◌≤◌, ◌+◌, ℕ, List, IfOk, All, length};
+ghost use Rattle.std.specs.Prelude.{◌≡◌, ◌<◌, ◌≤◌, ◌+◌, ℕ, List, IfOk, IfErr, All, length};
 ghost use Rattle.lido_base.specs.Tree.{IsTree};
 ghost use Rattle.lido_base.specs.Plain.{plain_tree};
-ghost use Rattle.flat_grammar.specs.Fitting.{IsFitting};
+ghost use Rattle.flat_grammar.specs.Fitting.{IsFitting, IsWithinLimits};
 ghost use Rattle.flat_grammar.specs.FlatTrees.{IsFlatTree};
 ghost use Rattle.tree_flattener.specs.Drafts.{Suits, IsWalk, most_nodes};
+ghost use Rattle.tree_flattener.specs.Limits.{IsRefused};
 ghost use Rattle.tree_flattener.specs.Forms.{AreForms};
 
+use crate::counts::check_limits;
 use crate::draft::{Draft, Spot};
 use crate::forms::{Form, forms};
 use crate::walk::{climb, close, go_down};
@@ -87,13 +89,21 @@ pub fn flatten(alloc: Global, flat: &Flat, written: Tree) -> Result<Trees, TreeF
     requires few { length written ≤ 1048576 }
     ensures written { IfOk result (λ trees. trees.written ≡ written) }
     ensures flat { IfOk result (λ trees. IsFlatTree flat.now.symbols flat.now.rules flat.now.shapes written trees.flat trees.node_of) }
+    ensures within { IfOk result (λ trees. IsWithinLimits flat.now.symbols flat.now.rules trees.flat) }
+    ensures refused { IfErr result (λ e. IsRefused flat.now.symbols flat.now.rules flat.now.shapes written e) }
 {
-    let draft = flat_tree(alloc, flat, &written)?;
+    let Ok(draft) = flat_tree(alloc, flat, &written) else {
+        return Err(TreeFault::Memory);
+    };
     let Draft {
         flat: tree,
         node_of,
         ..
     } = draft;
+    match check_limits(alloc, flat, &tree) {
+        Ok(()) => {}
+        Err(e) => return Err(e),
+    }
     Ok(Trees {
         written,
         flat: tree,

@@ -1,6 +1,7 @@
 //! The flat tree of a written tree: under each list node stands a chain of cells.
 #![tactic(auto)]
 
+mod counts;
 mod draft;
 mod flatten_tree;
 mod forms;

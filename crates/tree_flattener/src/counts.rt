@@ -133,7 +133,11 @@ fn total(tree: &Tree, numbers: &[u64]) -> u64
 fn number_at(numbers: &[u64], rule: usize) -> u64
     ensures { result ≡ slice_index_or numbers.now rule 0 }
 {
-    if rule < numbers.len() { numbers[rule] } else { 0 }
+    if rule < numbers.len() {
+        numbers[rule]
+    } else {
+        0
+    }
 }
 
 /// Whether the flat tree is within the limits on instances and text cells. `TooMany` says of what it has too many, instances

@@ -20,10 +20,13 @@ returns-then-total-gt-MOST_INSTANCES-clause-refused c = let e = (c.total.ensures
 
 pub returns-then-total-gt-MOST_TEXT_CELLS-clause-refused : goal.returns-then-total-gt-MOST_TEXT_CELLS-clause-refused
 returns-then-total-gt-MOST_TEXT_CELLS-clause-refused c = let e = (c.total.ensures ∙ ap (λ (xs : List ℕ). sum_by (λ (n : Node Value). get_or xs n.rule 0) c.args.tree.now) (c.as_slice.ensures.value ∙ c.in-Ok.ensures)) in let f = (c.total-2.ensures ∙ ap (λ (xs : List ℕ). sum_by (λ (n : Node Value). get_or xs n.rule 0) c.args.tree.now) (c.as_slice-2.ensures.value ∙ c.in-Ok-cells_by_rule.ensures)) in
-    inr (within_sum c.args.flat.now.symbols c.args.flat.now.rules (λ (r : FlatRule). length (attrs_of c.args.flat.now.symbols r.left)) 16777217 c.args.tree.now 4194304 (omega arith) (omega (arith, e, c.if-total-gt-MOST_INSTANCES.false)),
-    past_sum c.args.flat.now.symbols c.args.flat.now.rules (λ (r : FlatRule). sum_by (λ (d : FlatComp). cells d.value) r.comps) 16777217 c.args.tree.now 16777216 (omega (arith, f, c.if-total-gt-MOST_TEXT_CELLS.true)))
+    inr (
+      within_sum c.args.flat.now.symbols c.args.flat.now.rules (λ (r : FlatRule). length (attrs_of c.args.flat.now.symbols r.left)) 16777217 c.args.tree.now 4194304 (omega arith) (omega (arith, e, c.if-total-gt-MOST_INSTANCES.false)),
+      past_sum c.args.flat.now.symbols c.args.flat.now.rules (λ (r : FlatRule). sum_by (λ (d : FlatComp). cells d.value) r.comps) 16777217 c.args.tree.now 16777216 (omega (arith, f, c.if-total-gt-MOST_TEXT_CELLS.true)),
+    )
 
 pub returns-clause-within : goal.returns-clause-within
-returns-clause-within c = let e = (c.total.ensures ∙ ap (λ (xs : List ℕ). sum_by (λ (n : Node Value). get_or xs n.rule 0) c.args.tree.now) (c.as_slice.ensures.value ∙ c.in-Ok.ensures)) in let f = (c.total-2.ensures ∙ ap (λ (xs : List ℕ). sum_by (λ (n : Node Value). get_or xs n.rule 0) c.args.tree.now) (c.as_slice-2.ensures.value ∙ c.in-Ok-cells_by_rule.ensures)) in
-    (within_sum c.args.flat.now.symbols c.args.flat.now.rules (λ (r : FlatRule). length (attrs_of c.args.flat.now.symbols r.left)) 16777217 c.args.tree.now 4194304 (omega arith) (omega (arith, e, c.if-total-gt-MOST_INSTANCES.false)),
-    within_sum c.args.flat.now.symbols c.args.flat.now.rules (λ (r : FlatRule). sum_by (λ (d : FlatComp). cells d.value) r.comps) 16777217 c.args.tree.now 16777216 (omega arith) (omega (arith, f, c.if-total-gt-MOST_TEXT_CELLS.false)))
+returns-clause-within c = let e = (c.total.ensures ∙ ap (λ (xs : List ℕ). sum_by (λ (n : Node Value). get_or xs n.rule 0) c.args.tree.now) (c.as_slice.ensures.value ∙ c.in-Ok.ensures)) in let f = (c.total-2.ensures ∙ ap (λ (xs : List ℕ). sum_by (λ (n : Node Value). get_or xs n.rule 0) c.args.tree.now) (c.as_slice-2.ensures.value ∙ c.in-Ok-cells_by_rule.ensures)) in (
+  within_sum c.args.flat.now.symbols c.args.flat.now.rules (λ (r : FlatRule). length (attrs_of c.args.flat.now.symbols r.left)) 16777217 c.args.tree.now 4194304 (omega arith) (omega (arith, e, c.if-total-gt-MOST_INSTANCES.false)),
+  within_sum c.args.flat.now.symbols c.args.flat.now.rules (λ (r : FlatRule). sum_by (λ (d : FlatComp). cells d.value) r.comps) 16777217 c.args.tree.now 16777216 (omega arith) (omega (arith, f, c.if-total-gt-MOST_TEXT_CELLS.false)),
+)

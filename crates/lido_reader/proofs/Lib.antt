@@ -11,6 +11,8 @@ pub mod BodiesLemmas
 pub mod SymbolsLemmas
 pub mod ItemsLemmas
 pub mod WholeLemmas
+pub mod AddedLemmas
+pub mod SilentLemmas
 pub mod RenamingLemmas
 pub mod SameSpecificationLemmas
 pub mod SamePlaceLemmas

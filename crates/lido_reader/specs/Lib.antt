@@ -7,4 +7,5 @@ pub mod Computations
 pub mod Items
 pub mod Specification
 pub mod Found
+pub mod Added
 pub mod Renaming

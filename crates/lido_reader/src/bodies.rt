@@ -2,6 +2,7 @@
 ghost use Rattle.std.specs.Prelude.{◌≡◌, ◌+◌, ◌<◌, ◌≤◌, ◌↔◌, [], List, ℕ, IsTrue, length, IfOk};
 ghost use Rattle.lido_base.specs.Reading.{GoesOn, nothing};
 ghost use Rattle.lido_lexer.specs.Lexing.{Gains};
+ghost use Rattle.lido_reader.specs.Added.{Keeps};
 ghost use Rattle.lido_reader.specs.Computations.{IsComputation};
 ghost use Rattle.lido_reader.specs.Items.{AreComputations, IsBody, IsFurtherComputation, Repeats, is_not_end};
 ghost use Rattle.lido_reader.specs.Phrases.{ReadsSeen};
@@ -43,6 +44,7 @@ fn computations<'a>(
     ensures reads { (texts : List (List ℕ)) → IsLater strings.new texts
         → ReadsSeen (λ body. (body.all.items, body.next)) (Repeats (IsFurtherComputation (IsComputation texts)) ([], number)) is_not_end end tokens.now result }
     ensures kept { Gains strings.old strings.new }
+    ensures same { Keeps strings.old strings.new }
     ensures few { length strings.new ≤ length strings.old + length tokens.now }
     ensures each { IfOk result (λ x. length strings.new + length x.1.now ≤ length strings.old + length tokens.now) }
     ensures no_longer { IfOk result (λ x. length x.1.now ≤ length tokens.now) }
@@ -71,6 +73,7 @@ fn computed<'a>(
     ensures reads { (texts : List (List ℕ)) → IsLater strings.new texts
         → ReadsSeen (λ body. (body.all.items, body.next)) (AreComputations (IsComputation texts) number) is_not_end end tokens.now result }
     ensures kept { Gains strings.old strings.new }
+    ensures same { Keeps strings.old strings.new }
     ensures few { length strings.new ≤ length strings.old + length tokens.now }
     ensures each { IfOk result (λ x. length strings.new + length x.1.now ≤ length strings.old + length tokens.now) }
     ensures no_longer { IfOk result (λ x. length x.1.now ≤ length tokens.now) }
@@ -99,6 +102,7 @@ pub(crate) fn body<'a>(
     ensures reads { (texts : List (List ℕ)) → IsLater strings.new texts
         → ReadsSeen (λ body. (body.all.items, body.next)) (IsBody (IsComputation texts) number) nothing end tokens.now result }
     ensures kept { Gains strings.old strings.new }
+    ensures same { Keeps strings.old strings.new }
     ensures few { length strings.new ≤ length strings.old + length tokens.now }
     ensures each { IfOk result (λ x. length strings.new + length x.1.now ≤ length strings.old + length tokens.now) }
     ensures shorter { IfOk result (λ x. length x.1.now < length tokens.now) }

@@ -2,6 +2,7 @@
 ghost use Rattle.std.specs.Prelude.{◌≡◌, ◌+◌, ◌<◌, ◌≤◌, length, IfOk};
 ghost use Rattle.lido_base.specs.Reading.{nothing};
 ghost use Rattle.lido_lexer.specs.Lexing.{Gains};
+ghost use Rattle.lido_reader.specs.Added.{Keeps};
 ghost use Rattle.lido_reader.specs.Computations.{AreAfter, AreDependencies, AreSomeDependencies, IsComputation, IsDependency, IsTarget, IsValue, continues_after, continues_computation, continues_dependencies};
 ghost use Rattle.lido_reader.specs.Expressions.{continues};
 ghost use Rattle.lido_reader.specs.Parts.{ReadsWith};
@@ -130,6 +131,7 @@ fn value<'a>(
     ensures reads { ReadsWith (λ e. e) (λ texts. IsValue texts number) (continues 0) strings.new end tokens.now result }
     ensures shorter { IfOk result (λ x. length x.1.now < length tokens.now) }
     ensures kept { Gains strings.old strings.new }
+    ensures same { Keeps strings.old strings.new }
     ensures few { length strings.new ≤ length strings.old + length tokens.now }
     ensures left { IfOk result (λ x. length strings.new + length x.1.now ≤ length strings.old + length tokens.now) }
 {
@@ -155,6 +157,7 @@ pub(crate) fn computation<'a>(
     ensures reads { ReadsWith (λ one. one) (λ texts. IsComputation texts number) continues_computation strings.new end tokens.now result }
     ensures shorter { IfOk result (λ x. length x.1.now < length tokens.now) }
     ensures kept { Gains strings.old strings.new }
+    ensures same { Keeps strings.old strings.new }
     ensures few { length strings.new ≤ length strings.old + length tokens.now }
     ensures left { IfOk result (λ x. length strings.new + length x.1.now ≤ length strings.old + length tokens.now) }
 {

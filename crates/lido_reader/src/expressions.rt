@@ -4,6 +4,7 @@
 ghost use Rattle.std.specs.Prelude.{◌≡◌, ◌+◌, ◌<◌, ◌≤◌, None, Some, ◌∷◌, List as Sequence, ℕ, length, IfOk, MatchOption};
 ghost use Rattle.lido_lexer.specs.Lexing.{Gains};
 ghost use Rattle.lido_lexer.specs.declared.token.Token.{Token as Read};
+ghost use Rattle.lido_reader.specs.Added.{Keeps};
 ghost use Rattle.lido_reader.specs.Expressions.{AreOperands, AreSome, IsExpr, IsPrimary, continues, infix_of, prefix_of, start_of};
 ghost use Rattle.lido_reader.specs.Parts.{AreNumbered, IsCalled, IsChoice, IsCounted, IsIndexed, IsNamed, IsOrder, IsParenthesized, ReadsWith, continues_list, follows};
 ghost use Rattle.lido_reader.specs.Phrases.{ReadsSeen, Then};
@@ -59,6 +60,7 @@ pub(crate) fn expression<'a>(
     ensures reads { ReadsWith (λ e. e) (λ texts. IsExpr texts level counts) (continues level) strings.new end tokens.now result }
     ensures shorter { IfOk result (λ x. length x.1.now < length tokens.now) }
     ensures kept { Gains strings.old strings.new }
+    ensures same { Keeps strings.old strings.new }
     ensures few { length strings.new ≤ length strings.old + length tokens.now }
     ensures left { IfOk result (λ x. length strings.new + length x.1.now ≤ length strings.old + length tokens.now) }
 {
@@ -89,6 +91,7 @@ fn operands<'a>(
     ensures reads { ReadsWith (λ e. e) (λ texts. AreOperands texts level (first, counts)) (continues level) strings.new end tokens.now result }
     ensures no_longer { IfOk result (λ x. length x.1.now ≤ length tokens.now) }
     ensures kept { Gains strings.old strings.new }
+    ensures same { Keeps strings.old strings.new }
     ensures few { length strings.new ≤ length strings.old + length tokens.now }
     ensures left { IfOk result (λ x. length strings.new + length x.1.now ≤ length strings.old + length tokens.now) }
 {
@@ -117,6 +120,7 @@ fn unary<'a>(
     ensures reads { ReadsWith (λ e. e) (λ texts. IsExpr texts 6 counts) (continues 6) strings.new end tokens.now result }
     ensures shorter { IfOk result (λ x. length x.1.now < length tokens.now) }
     ensures kept { Gains strings.old strings.new }
+    ensures same { Keeps strings.old strings.new }
     ensures few { length strings.new ≤ length strings.old + length tokens.now }
     ensures left { IfOk result (λ x. length strings.new + length x.1.now ≤ length strings.old + length tokens.now) }
 {
@@ -144,6 +148,7 @@ fn primary<'a>(
     ensures reads { ReadsWith (λ e. e) (λ texts. IsPrimary texts counts) follows strings.new end tokens.now result }
     ensures shorter { IfOk result (λ x. length x.1.now < length tokens.now) }
     ensures kept { Gains strings.old strings.new }
+    ensures same { Keeps strings.old strings.new }
     ensures few { length strings.new ≤ length strings.old + length tokens.now }
     ensures left { IfOk result (λ x. length strings.new + length x.1.now ≤ length strings.old + length tokens.now) }
 {
@@ -215,6 +220,7 @@ fn counted<'a>(
     ensures reads { ReadsWith (λ e. e) (λ texts. IsCounted texts token counts) follows strings.new end tokens.now result }
     ensures no_longer { IfOk result (λ x. length x.1.now ≤ length tokens.now) }
     ensures kept { Gains strings.old strings.new }
+    ensures same { Keeps strings.old strings.new }
     ensures few { length strings.new ≤ length strings.old + length tokens.now + 1 }
     ensures left { IfOk result (λ x. length strings.new + length x.1.now ≤ length strings.old + length tokens.now + 1) }
 {
@@ -243,6 +249,7 @@ fn parenthesized<'a>(
     ensures reads { ReadsWith (λ e. e) (λ texts. IsParenthesized texts counts) follows strings.new end tokens.now result }
     ensures shorter { IfOk result (λ x. length x.1.now < length tokens.now) }
     ensures kept { Gains strings.old strings.new }
+    ensures same { Keeps strings.old strings.new }
     ensures few { length strings.new ≤ length strings.old + length tokens.now }
     ensures left { IfOk result (λ x. length strings.new + length x.1.now ≤ length strings.old + length tokens.now) }
 {
@@ -264,6 +271,7 @@ fn choice<'a>(
     ensures reads { ReadsWith (λ e. e) (λ texts. IsChoice texts at counts) follows strings.new end tokens.now result }
     ensures shorter { IfOk result (λ x. length x.1.now < length tokens.now) }
     ensures kept { Gains strings.old strings.new }
+    ensures same { Keeps strings.old strings.new }
     ensures few { length strings.new ≤ length strings.old + length tokens.now + 1 }
     ensures left { IfOk result (λ x. length strings.new + length x.1.now ≤ length strings.old + length tokens.now + 1) }
 {
@@ -292,6 +300,7 @@ fn order<'a>(
     ensures reads { ReadsWith (λ e. e) (λ texts. IsOrder texts at counts) follows strings.new end tokens.now result }
     ensures shorter { IfOk result (λ x. length x.1.now < length tokens.now) }
     ensures kept { Gains strings.old strings.new }
+    ensures same { Keeps strings.old strings.new }
     ensures few { length strings.new ≤ length strings.old + length tokens.now + 1 }
     ensures left { IfOk result (λ x. length strings.new + length x.1.now ≤ length strings.old + length tokens.now + 1) }
 {
@@ -315,6 +324,7 @@ fn named<'a>(
     ensures reads { ReadsWith (λ e. e) (λ texts. IsNamed texts counts word) follows strings.new end tokens.now result }
     ensures no_longer { IfOk result (λ x. length x.1.now ≤ length tokens.now) }
     ensures kept { Gains strings.old strings.new }
+    ensures same { Keeps strings.old strings.new }
     ensures few { length strings.new ≤ length strings.old + length tokens.now }
     ensures left { IfOk result (λ x. length strings.new + length x.1.now ≤ length strings.old + length tokens.now) }
 {
@@ -358,6 +368,7 @@ fn called<'a>(
     ensures reads { ReadsWith (λ e. e) (λ texts. IsCalled texts word counts) follows strings.new end tokens.now result }
     ensures shorter { IfOk result (λ x. length x.1.now < length tokens.now) }
     ensures kept { Gains strings.old strings.new }
+    ensures same { Keeps strings.old strings.new }
     ensures few { length strings.new ≤ length strings.old + length tokens.now }
     ensures left { IfOk result (λ x. length strings.new + length x.1.now ≤ length strings.old + length tokens.now) }
 {
@@ -381,6 +392,7 @@ fn some_expressions<'a>(
     ensures reads { ReadsWith (λ x. (x.0.items, x.1)) (λ texts. AreSome texts counts) continues_list strings.new end tokens.now result }
     ensures shorter { IfOk result (λ x. length x.1.now < length tokens.now) }
     ensures kept { Gains strings.old strings.new }
+    ensures same { Keeps strings.old strings.new }
     ensures few { length strings.new ≤ length strings.old + length tokens.now }
     ensures left { IfOk result (λ x. length strings.new + length x.1.now ≤ length strings.old + length tokens.now) }
 {

@@ -1,9 +1,10 @@
 //! The items of a specification, one behind the other.
-ghost use Rattle.std.specs.Prelude.{◌≡◌, ◌+◌, ◌<◌, ◌≤◌, ◌↔◌, false, List, ℕ, IsTrue, length, IfOk};
+ghost use Rattle.std.specs.Prelude.{◌≡◌, ◌+◌, ◌<◌, ◌≤◌, ◌↔◌, false, List, ℕ, IsTrue, length, IfOk, OnOk};
 ghost use Rattle.lido_base.specs.Reading.{GoesOn, nothing};
 ghost use Rattle.lido_lexer.specs.Lexing.{Gains};
 ghost use Rattle.lido_lexer.specs.Seen.{Keys};
 ghost use Rattle.lido_lexer.specs.declared.token.Token.{Token};
+ghost use Rattle.lido_reader.specs.Added.{Adds, AddsSome, Keeps, Owes, first_names, rule_names};
 ghost use Rattle.lido_reader.specs.Computations.{IsComputation};
 ghost use Rattle.lido_reader.specs.Found.{found_in};
 ghost use Rattle.lido_reader.specs.Items.{IsAttrItem, IsChainItem, IsFurtherItem, IsRuleItem, IsSymbolItem, IsTermItem, Repeats, begins_item, called_in, is_item_word, no_items};
@@ -45,6 +46,8 @@ fn rule_item<'a>(
     ensures few { length strings.new ≤ length strings.old + length tokens.now }
     ensures each { IfOk result (λ x. length strings.new + length x.1.now ≤ length strings.old + length tokens.now) }
     ensures shorter { IfOk result (λ x. length x.1.now < length tokens.now) }
+    ensures table { OnOk result (Adds (first_names (length found.rules.items + 1) tokens.now) strings.old strings.new) }
+    ensures within { AddsSome (first_names (length found.rules.items + 1) tokens.now) strings.old strings.new }
 {
     let mut all = found;
     let place = all.rules.len() as u64 + 1;
@@ -65,6 +68,7 @@ fn symbol_item<'a>(
     ensures reads { (texts : List (List ℕ)) → IsLater strings.new texts
         → ReadsSeen found_in (IsSymbolItem (called_in texts) (IsComputation texts) (found_in found)) nothing end tokens.now result }
     ensures kept { Gains strings.old strings.new }
+    ensures same { Keeps strings.old strings.new }
     ensures few { length strings.new ≤ length strings.old + length tokens.now }
     ensures each { IfOk result (λ x. length strings.new + length x.1.now ≤ length strings.old + length tokens.now) }
     ensures shorter { IfOk result (λ x. length x.1.now < length tokens.now) }
@@ -177,6 +181,8 @@ fn item<'a>(
     ensures few { length strings.new ≤ length strings.old + length tokens.now }
     ensures each { IfOk result (λ x. length strings.new + length x.1.now ≤ length strings.old + length tokens.now) }
     ensures shorter { IfOk result (λ x. length x.1.now < length tokens.now) }
+    ensures table { OnOk result (Adds (first_names (length found.rules.items + 1) tokens.now) strings.old strings.new) }
+    ensures within { AddsSome (first_names (length found.rules.items + 1) tokens.now) strings.old strings.new }
 {
     if has_key(tokens, Keyword::Rule) {
         return rule_item(alloc, tokens, end, strings, found);
@@ -204,6 +210,9 @@ pub(crate) fn items<'a>(
         → ReadsSeen found_in (Repeats (IsFurtherItem (called_in texts) (IsComputation texts)) (no_items, 0)) begins_item end tokens.now result }
     ensures kept { Gains strings.old strings.new }
     ensures few { length strings.new ≤ length strings.old + length tokens.now }
+    ensures table { IfOk result (λ x. (texts : List (List ℕ)) → IsLater strings.new texts
+        → Owes 1 tokens.now strings.old (length x.0.rules.items + 1) x.1.now strings.new) }
+    ensures within { (texts : List (List ℕ)) → IsLater strings.new texts → AddsSome (rule_names 1 tokens.now) strings.old strings.new }
 {
     let mut found = Found {
         rules: Vec::new(alloc),

@@ -7,6 +7,7 @@ mod counts;
 mod declarations;
 mod expressions;
 mod fault;
+mod functions;
 mod items;
 pub mod laws;
 mod names;
@@ -21,4 +22,5 @@ mod symbols;
 mod tests;
 
 pub use fault::ReadSpecFault;
+pub use functions::intern_functions;
 pub use specification::read_spec;

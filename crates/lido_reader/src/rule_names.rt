@@ -1,7 +1,9 @@
 //! What a rule is called.
-ghost use Rattle.std.specs.Prelude.{◌≡◌, ◌+◌, ◌≤◌, List, ℕ, length, IfOk, IfErr};
+ghost use Rattle.std.specs.Prelude.{◌≡◌, ◌+◌, ◌≤◌, List, ℕ, length, IfOk, IfErr, OnOk, OnErr};
 ghost use Rattle.lido_base.specs.Reading.{Finds};
+ghost use Rattle.lido_base.specs.Texts.{with_text};
 ghost use Rattle.lido_lexer.specs.Lexing.{Gains};
+ghost use Rattle.lido_reader.specs.Added.{called_names, interned};
 ghost use Rattle.lido_reader.specs.Items.{IsRuleName, called_in, is_word, rule_text};
 ghost use Rattle.lido_reader.specs.Specification.{IsLater};
 
@@ -23,6 +25,8 @@ fn called(alloc: Global, strings: &mut Strings, number: u64) -> Result<StrId, Re
     ensures id { IfOk result (λ id. (texts : List (List ℕ)) → IsLater strings.new texts → called_in texts number ≡ id) }
     ensures kept { Gains strings.old strings.new }
     ensures few { length strings.new ≤ length strings.old + 1 }
+    ensures table { OnOk result (strings.new ≡ with_text strings.old (rule_text number)) }
+    ensures refused { OnErr result (strings.new ≡ strings.old) }
     ensures memory { IfErr result (λ fault. fault ≡ ReadSpecFault.Memory) }
 {
     let text = rule_text(alloc, number)?;
@@ -41,6 +45,8 @@ pub(crate) fn rule_name<'a>(
     ensures no_longer { IfOk result (λ x. length x.1.now ≤ length tokens.now) }
     ensures kept { Gains strings.old strings.new }
     ensures few { length strings.new ≤ length strings.old + 1 }
+    ensures table { OnOk result (strings.new ≡ interned strings.old (called_names number tokens.now)) }
+    ensures refused { OnErr result (strings.new ≡ strings.old) }
     ensures memory { IfErr result (λ fault. fault ≡ ReadSpecFault.Memory) }
 {
     if let Some((name, rest)) = after_name(tokens) {

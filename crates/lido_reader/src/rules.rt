@@ -1,7 +1,8 @@
 //! RULE items.
-ghost use Rattle.std.specs.Prelude.{◌≡◌, ◌+◌, ◌<◌, ◌≤◌, List, ℕ, length, IfOk};
+ghost use Rattle.std.specs.Prelude.{◌≡◌, ◌+◌, ◌<◌, ◌≤◌, List, ℕ, length, IfOk, OnOk};
 ghost use Rattle.lido_base.specs.Reading.{nothing};
 ghost use Rattle.lido_lexer.specs.Lexing.{Gains};
+ghost use Rattle.lido_reader.specs.Added.{Adds, AddsSome, first_names};
 ghost use Rattle.lido_reader.specs.Computations.{IsComputation};
 ghost use Rattle.lido_reader.specs.Items.{IsRule, called_in};
 ghost use Rattle.lido_reader.specs.Phrases.{ReadsSeen};
@@ -33,6 +34,8 @@ pub(crate) fn rule<'a>(
     ensures few { length strings.new ≤ length strings.old + length tokens.now }
     ensures each { IfOk result (λ x. length strings.new + length x.1.now ≤ length strings.old + length tokens.now) }
     ensures shorter { IfOk result (λ x. length x.1.now < length tokens.now) }
+    ensures table { OnOk result (Adds (first_names place tokens.now) strings.old strings.new) }
+    ensures within { AddsSome (first_names place tokens.now) strings.old strings.new }
 {
     let (word, behind_word) = keyword(tokens, end, Keyword::Rule)?;
     let (called, behind_name) = rule_name(alloc, behind_word, strings, place)?;

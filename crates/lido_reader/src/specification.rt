@@ -1,7 +1,8 @@
 //! Whole specifications.
-ghost use Rattle.std.specs.Prelude.{◌≡◌, ◌+◌, ◌≤◌, List as Sequence, ℕ, length};
+ghost use Rattle.std.specs.Prelude.{◌≡◌, ◌+◌, ◌≤◌, List as Sequence, ℕ, length, OnOk};
 ghost use Rattle.lido_base.specs.Phases.{Gives};
 ghost use Rattle.lido_lexer.specs.Lexing.{Gains};
+ghost use Rattle.lido_reader.specs.Added.{HasAll, functions, interned, rule_names};
 ghost use Rattle.lido_reader.specs.Specification.{IsLater, IsReading};
 
 use crate::ReadSpecFault;
@@ -28,8 +29,16 @@ pub fn read_spec(
     ensures reads { (texts : Sequence (Sequence ℕ)) → IsLater strings.new texts → Gives (λ spec. spec) (IsReading texts tokens.now end) ReadSpecFault.Memory result }
     ensures kept { Gains strings.old strings.new }
     ensures few { length strings.new ≤ length strings.old + length tokens.now }
+    // Where the names of all functions are texts already (`intern_functions`), the tokens tell which texts there are later.
+    ensures table { OnOk result (HasAll functions strings.old → strings.new ≡ interned strings.old (rule_names 1 tokens.now)) }
+    ensures within { HasAll functions strings.old → IsLater strings.new (interned strings.old (rule_names 1 tokens.now)) }
+    ensures exact { HasAll functions strings.old
+        → Gives (λ spec. spec) (IsReading (interned strings.old (rule_names 1 tokens.now)) tokens.now end) ReadSpecFault.Memory result }
 {
-    let (found, rest) = items(alloc, tokens, end, strings)?;
+    let read = items(alloc, tokens, end, strings);
+    // Ids tell texts apart.
+    let _texts = strings.len();
+    let (found, rest) = read?;
     if let Some((token, _)) = next(rest) {
         return Err(ReadSpecFault::Syntax { at: token.from });
     }

@@ -2,6 +2,7 @@
 ghost use Rattle.std.specs.Prelude.{◌≡◌, ◌+◌, ◌<◌, ◌≤◌, ◌∷◌, [], ◌↔◌, List as Sequence, ℕ, IsTrue, length, IfOk};
 ghost use Rattle.lido_base.specs.Reading.{GoesOn, nothing};
 ghost use Rattle.lido_lexer.specs.Lexing.{Gains};
+ghost use Rattle.lido_reader.specs.Added.{Keeps};
 ghost use Rattle.lido_reader.specs.Computations.{IsComputation};
 ghost use Rattle.lido_reader.specs.Items.{AreInherited, IsAbout, IsComputing, IsDeclaring, IsSymbol, IsSymbolHead, continues_inherited, is_declaring};
 ghost use Rattle.lido_reader.specs.Phrases.{AreMore, IsName, ReadsSeen, is_comma};
@@ -140,6 +141,7 @@ fn computing<'a>(
     ensures reads { (texts : Sequence (Sequence ℕ)) → IsLater strings.new texts
         → ReadsSeen (λ item. item) (IsComputing (IsComputation texts) (head.at, head.class) first number) nothing end tokens.now result }
     ensures kept { Gains strings.old strings.new }
+    ensures same { Keeps strings.old strings.new }
     ensures few { length strings.new ≤ length strings.old + length tokens.now }
     ensures each { IfOk result (λ x. length strings.new + length x.1.now ≤ length strings.old + length tokens.now) }
     ensures shorter { IfOk result (λ x. length x.1.now < length tokens.now) }
@@ -171,6 +173,7 @@ fn about<'a>(
     ensures reads { (texts : Sequence (Sequence ℕ)) → IsLater strings.new texts
         → ReadsSeen (λ item. item) (IsAbout (IsComputation texts) (head.at, head.class) first number) nothing end tokens.now result }
     ensures kept { Gains strings.old strings.new }
+    ensures same { Keeps strings.old strings.new }
     ensures few { length strings.new ≤ length strings.old + length tokens.now }
     ensures each { IfOk result (λ x. length strings.new + length x.1.now ≤ length strings.old + length tokens.now) }
     ensures shorter { IfOk result (λ x. length x.1.now < length tokens.now) }
@@ -195,6 +198,7 @@ pub(crate) fn symbol<'a>(
     ensures reads { (texts : Sequence (Sequence ℕ)) → IsLater strings.new texts
         → ReadsSeen (λ item. item) (IsSymbol (IsComputation texts) number) nothing end tokens.now result }
     ensures kept { Gains strings.old strings.new }
+    ensures same { Keeps strings.old strings.new }
     ensures few { length strings.new ≤ length strings.old + length tokens.now }
     ensures each { IfOk result (λ x. length strings.new + length x.1.now ≤ length strings.old + length tokens.now) }
     ensures shorter { IfOk result (λ x. length x.1.now < length tokens.now) }

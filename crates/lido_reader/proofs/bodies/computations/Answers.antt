@@ -12,12 +12,14 @@ use Rattle.lido_reader.proofs.PartsLemmas.{finish, then_finish, go_on, go_past, 
 use Rattle.lido_reader.proofs.DeclarationsLemmas.{semicolon_completable}
 use Rattle.lido_reader.proofs.TextsLemmas.{later_of}
 use Rattle.lido_reader.proofs.BodiesLemmas.{computation_steps, semicolon_computations}
+use Rattle.lido_reader.proofs.AddedLemmas.{keeps_none, keeps_more}
 use Rattle.lido_reader.proofs.bodies.computations.Goals as goal
 
 pub loop-alloc-init : goal.loop-alloc-init
 loop-alloc-init c = let items : c.new-all.result.items ≡ [] = c.new-all.ensures.items in record {
   leads = λ texts later. rw items (leads_self (Repeats (IsFurtherComputation (IsComputation texts)) ([], c.args.number)) is_not_end c.args.tokens.now);
   kept = gains_none c.args.strings.now;
+  same = keeps_none c.args.strings.now;
   each = omega arith;
   no_longer = omega arith;
 }
@@ -46,9 +48,22 @@ loop-alloc-preserved c =
           (c.loop-alloc.invariant.leads texts (later_of c.loop-alloc.strings c.computation.new.strings texts c.computation.ensures.kept later))
           (read_whole (go_on (go_past (semicolon_computations _ _) (leads_self (IsFurtherComputation (IsComputation texts) found) nothing c.loop-alloc.rest.now) (c.in_ok-comp.ensures.reads texts later.gains later.distinct)) c.in_ok-behind_semicolon.ensures.reads)));
       kept = gains_more c.loop-alloc.invariant.kept c.computation.ensures.kept;
+      same = keeps_more c.loop-alloc.invariant.same c.computation.ensures.same;
       each = grind (arith, common_steps, c.in_ok-comp.ensures.left, c.in_ok-behind_semicolon.ensures.shorter, c.loop-alloc.invariant.each);
       no_longer = grind (arith, common_steps);
     }
 
 pub returns-clause-reads : goal.returns-clause-reads
 returns-clause-reads c = λ texts later. repeat_ends (computation_steps texts) (λ g. let it_is = c.is_not_end.ensures.1 g in cc (c.loop-alloc-test.false)) (c.loop-alloc.invariant.leads texts later)
+
+pub returns-in_err-comp-clause-same : goal.returns-in_err-comp-clause-same
+returns-in_err-comp-clause-same c = keeps_more c.loop-alloc.invariant.same c.computation.ensures.same
+
+pub returns-in_err-behind_semicolon-clause-same : goal.returns-in_err-behind_semicolon-clause-same
+returns-in_err-behind_semicolon-clause-same c = keeps_more c.loop-alloc.invariant.same c.computation.ensures.same
+
+pub returns-in_err-push-clause-same : goal.returns-in_err-push-clause-same
+returns-in_err-push-clause-same c = keeps_more c.loop-alloc.invariant.same c.computation.ensures.same
+
+pub returns-clause-same : goal.returns-clause-same
+returns-clause-same c = c.loop-alloc.invariant.same

@@ -2,6 +2,7 @@ use Rattle.std.specs.Prelude.{ℕ, List, []}
 use Rattle.std.proofs.Common.{length, ◌+◌, ◌≤◌}
 use Rattle.lido_base.specs.Reading.{Leads}
 use Rattle.lido_lexer.specs.Lexing.{Gains}
+use Rattle.lido_reader.specs.Added.{Keeps}
 use Rattle.lido_reader.specs.Computations.{IsComputation}
 use Rattle.lido_reader.specs.Items.{IsFurtherComputation, Repeats, is_not_end}
 use Rattle.lido_reader.specs.Specification.{IsLater}
@@ -12,6 +13,7 @@ invariant-loop-alloc l = record {
   leads : (texts : List (List ℕ)) → IsLater l.strings texts
       → Leads (Repeats (IsFurtherComputation (IsComputation texts)) (l.all.items, l.next)) is_not_end l.rest (Repeats (IsFurtherComputation (IsComputation texts)) ([], l.number)) is_not_end l.tokens;
   kept : Gains l.fn.strings l.strings;
+  same : Keeps l.fn.strings l.strings;
   each : length l.strings + length l.rest ≤ length l.fn.strings + length l.tokens;
   no_longer : length l.rest ≤ length l.tokens;
 }

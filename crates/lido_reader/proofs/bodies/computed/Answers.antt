@@ -4,6 +4,7 @@ use Rattle.lido_reader.specs.Computations.{IsComputation}
 use Rattle.lido_reader.specs.Items.{AreComputations, IsFurtherComputation, Repeats, is_not_end}
 use Rattle.lido_reader.proofs.PhrasesLemmas.{refused_by}
 use Rattle.lido_reader.proofs.BodiesLemmas.{computed_leads, computed_none}
+use Rattle.lido_reader.proofs.AddedLemmas.{keeps_none}
 use Rattle.lido_reader.proofs.bodies.computed.Goals as goal
 
 pub returns-in_default-clause-reads : goal.returns-in_default-clause-reads
@@ -18,3 +19,6 @@ returns-in_err-body-clause-reads c = λ texts later. let p = err_from_is_err_and
 pub returns-clause-reads : goal.returns-clause-reads
 returns-clause-reads c = λ texts later. (computed_leads (IsComputation texts) c.args.number c.args.tokens.now c.in-Some.behind_word.now c.in-Some.field-0-0 c.in-Some.ensures.seen).finds
     (c.in_ok-body.body.all.items, c.in_ok-body.body.next) c.in_ok-body.rest.now (c.in_ok-body.ensures.reads texts later)
+
+pub returns-in_default-clause-same : goal.returns-in_default-clause-same
+returns-in_default-clause-same c = keeps_none _

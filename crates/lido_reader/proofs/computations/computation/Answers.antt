@@ -8,6 +8,7 @@ use Rattle.lido_reader.specs.Expressions.{continues}
 use Rattle.lido_reader.proofs.ExpressionsLemmas.{any_expression}
 use Rattle.lido_reader.specs.Computations.{continues_after, continues_computation}
 use Rattle.lido_reader.proofs.ComputationsLemmas.{option_continues, value_stops, close_no_value, output_leads, assignment_leads}
+use Rattle.lido_reader.proofs.AddedLemmas.{keeps_none}
 use Rattle.lido_reader.proofs.computations.computation.Goals as goal
 
 pub returns-in_err-_opening-clause-reads : goal.returns-in_err-_opening-clause-reads
@@ -101,3 +102,12 @@ returns-in_err-found-clause-kept c =
 pub returns-in_err-_equal-clause-kept : goal.returns-in_err-_equal-clause-kept
 returns-in_err-_equal-clause-kept c =
     gains_none _
+
+pub returns-in_err-_opening-clause-same : goal.returns-in_err-_opening-clause-same
+returns-in_err-_opening-clause-same c = keeps_none _
+
+pub returns-in_err-found-clause-same : goal.returns-in_err-found-clause-same
+returns-in_err-found-clause-same c = keeps_none _
+
+pub returns-in_err-_equal-clause-same : goal.returns-in_err-_equal-clause-same
+returns-in_err-_equal-clause-same c = keeps_none _

@@ -1,6 +1,7 @@
 use Rattle.std.proofs.lemmas.Result.{err_from_is_err_and}
 use Rattle.lido_lexer.proofs.Reading.{gains_none}
 use Rattle.lido_reader.proofs.PhrasesLemmas.{no_memory}
+use Rattle.lido_reader.proofs.AddedLemmas.{keeps_none}
 use Rattle.lido_reader.proofs.computations.value.Goals as goal
 
 pub returns-clause-reads : goal.returns-clause-reads
@@ -14,3 +15,6 @@ returns-in_err-behind-clause-reads c =
 pub returns-in_err-behind-clause-kept : goal.returns-in_err-behind-clause-kept
 returns-in_err-behind-clause-kept c =
     gains_none _
+
+pub returns-in_err-behind-clause-same : goal.returns-in_err-behind-clause-same
+returns-in_err-behind-clause-same c = keeps_none _

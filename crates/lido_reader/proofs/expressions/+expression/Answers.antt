@@ -16,6 +16,7 @@ use Rattle.lido_reader.specs.Expressions.{IsExpr, continues}
 use Rattle.lido_reader.specs.Parts.{IsChoice, IsOrder, IsParenthesized, continues_list, follows}
 use Rattle.lido_reader.proofs.PhrasesLemmas.{no_memory, refused_by}
 use Rattle.lido_reader.proofs.ExpressionsLemmas.{looser_fails, function_finds, text_gained, any_expression, further_operands, level_reads, level_refusals, option_wider, including_word, constituents_word, order_word, level_leads, operands_end, operator_leads, operand_stops, operator_exhausted, prefix_leads, primary_leads, some_completable, prefix_exhausted, close_no_operator, comma_apart, close_no_list, some_leads, some_fails, further_leads, further_fails, further_ends, without_finds, arguments_lead, called_leads, called_exhausted, placed_leads, named_completable, null_leads, parenthesized_leads, choice_leads, order_leads, including_leads, constituents_leads, context_leads, word_leads, constant_finds, constant_refuses, other_refuses, end_refuses, counted_leads, counted_exhausted}
+use Rattle.lido_reader.proofs.AddedLemmas.{keeps_none, keeps_more, prefix_among, infix_among, if_among, order_among, null_among}
 use Rattle.lido_reader.proofs.expressions.+expression.Goals as goal
 
 pub parenthesized-returns-in_err-tree-clause-reads : goal.parenthesized-returns-in_err-tree-clause-reads
@@ -332,6 +333,7 @@ expression-loop-at-init t c =
       below = omega arith;
       shorter = c.in_ok-tree.ensures.shorter;
       kept = c.in_ok-tree.ensures.kept;
+      same = c.in_ok-tree.ensures.same;
       left = c.in_ok-tree.ensures.left;
     }
 
@@ -352,6 +354,7 @@ expression-loop-at-preserved t c =
       below = omega arith;
       shorter = grind (arith, common_steps);
       kept = gains_more c.loop-at.invariant.kept c.in_ok-whole.ensures.kept;
+      same = keeps_more c.loop-at.invariant.same c.in_ok-whole.ensures.same;
       left = grind (arith, common_steps);
     }
 
@@ -542,6 +545,7 @@ some_expressions-loop-more-init t c =
           rw items (some_leads texts c.args.counts c.args.tokens.now _ _ (c.in_ok-first.ensures.reads texts g d));
       shorter = c.in_ok-first.ensures.shorter;
       kept = c.in_ok-first.ensures.kept;
+      same = c.in_ok-first.ensures.same;
       left = c.in_ok-first.ensures.left;
     }
 
@@ -562,6 +566,7 @@ some_expressions-loop-more-preserved t c =
           (c.loop-more.invariant.leads texts (gains_more c.in_ok-next.ensures.kept g) d));
       shorter = grind (arith, common_steps);
       kept = gains_more c.loop-more.invariant.kept c.in_ok-next.ensures.kept;
+      same = keeps_more c.loop-more.invariant.same c.in_ok-next.ensures.same;
       left = grind (arith, common_steps);
     }
 
@@ -576,3 +581,191 @@ some_expressions-returns-clause-kept t c =
 pub some_expressions-returns-in_err-push-clause-kept : goal.some_expressions-returns-in_err-push-clause-kept
 some_expressions-returns-in_err-push-clause-kept t c =
     gains_more c.loop-more.invariant.kept c.in_ok-next.ensures.kept
+
+pub choice-returns-in_err-first-clause-same : goal.choice-returns-in_err-first-clause-same
+choice-returns-in_err-first-clause-same t c =
+    (keeps_more (c.in_ok-word.ensures.same if_among) c.in_err-first.ensures.same)
+
+pub choice-returns-in_err-_before_second-clause-same : goal.choice-returns-in_err-_before_second-clause-same
+choice-returns-in_err-_before_second-clause-same t c =
+    (keeps_more (c.in_ok-word.ensures.same if_among) c.in_ok-first.ensures.same)
+
+pub choice-returns-in_err-second-clause-same : goal.choice-returns-in_err-second-clause-same
+choice-returns-in_err-second-clause-same t c =
+    (keeps_more (c.in_ok-word.ensures.same if_among) (keeps_more c.in_ok-first.ensures.same c.in_err-second.ensures.same))
+
+pub choice-returns-in_err-_before_third-clause-same : goal.choice-returns-in_err-_before_third-clause-same
+choice-returns-in_err-_before_third-clause-same t c =
+    (keeps_more (c.in_ok-word.ensures.same if_among) (keeps_more c.in_ok-first.ensures.same c.in_ok-second.ensures.same))
+
+pub choice-returns-in_err-third-clause-same : goal.choice-returns-in_err-third-clause-same
+choice-returns-in_err-third-clause-same t c =
+    (keeps_more (c.in_ok-word.ensures.same if_among) (keeps_more c.in_ok-first.ensures.same (keeps_more c.in_ok-second.ensures.same c.in_err-third.ensures.same)))
+
+pub choice-returns-in_err-_closing-clause-same : goal.choice-returns-in_err-_closing-clause-same
+choice-returns-in_err-_closing-clause-same t c =
+    (keeps_more (c.in_ok-word.ensures.same if_among) (keeps_more c.in_ok-first.ensures.same (keeps_more c.in_ok-second.ensures.same c.in_ok-third.ensures.same)))
+
+pub choice-returns-clause-same : goal.choice-returns-clause-same
+choice-returns-clause-same t c =
+    (keeps_more (c.in_ok-word.ensures.same if_among) (keeps_more c.in_ok-first.ensures.same (keeps_more c.in_ok-second.ensures.same c.in_ok-third.ensures.same)))
+
+pub order-returns-in_err-args-clause-same : goal.order-returns-in_err-args-clause-same
+order-returns-in_err-args-clause-same t c =
+    (keeps_more (c.in_ok-word.ensures.same order_among) c.in_err-args.ensures.same)
+
+pub order-returns-in_err-_closing-clause-same : goal.order-returns-in_err-_closing-clause-same
+order-returns-in_err-_closing-clause-same t c =
+    (keeps_more (c.in_ok-word.ensures.same order_among) c.in_ok-args.ensures.same)
+
+pub order-returns-clause-same : goal.order-returns-clause-same
+order-returns-clause-same t c =
+    (keeps_more (c.in_ok-word.ensures.same order_among) c.in_ok-args.ensures.same)
+
+pub unary-returns-in_default-spend-clause-same : goal.unary-returns-in_default-spend-clause-same
+unary-returns-in_default-spend-clause-same t c =
+    keeps_none _
+
+pub unary-returns-in_err-inner-clause-same : goal.unary-returns-in_err-inner-clause-same
+unary-returns-in_err-inner-clause-same t c =
+    (keeps_more (c.in_ok-word.ensures.same (prefix_among _ _ c.in-Some.ensures.1)) c.in_err-inner.ensures.same)
+
+pub unary-returns-clause-same : goal.unary-returns-clause-same
+unary-returns-clause-same t c =
+    (keeps_more (c.in_ok-word.ensures.same (prefix_among _ _ c.in-Some.ensures.1)) c.in_ok-inner.ensures.same)
+
+pub operands-returns-in_default-clause-same : goal.operands-returns-in_default-clause-same
+operands-returns-in_default-clause-same t c =
+    keeps_none _
+
+pub operands-returns-in_default-spend-clause-same : goal.operands-returns-in_default-spend-clause-same
+operands-returns-in_default-spend-clause-same t c =
+    keeps_none _
+
+pub operands-returns-in_err-second-clause-same : goal.operands-returns-in_err-second-clause-same
+operands-returns-in_err-second-clause-same t c =
+    (keeps_more (c.in_ok-word.ensures.same (infix_among _ _ _ c.in-Some.ensures.1)) c.in_err-second.ensures.same)
+
+pub operands-returns-clause-same : goal.operands-returns-clause-same
+operands-returns-clause-same t c =
+    (keeps_more (c.in_ok-word.ensures.same (infix_among _ _ _ c.in-Some.ensures.1)) (keeps_more c.in_ok-second.ensures.same c.operands.ensures.same))
+
+pub expression-returns-in_err-whole-clause-same : goal.expression-returns-in_err-whole-clause-same
+expression-returns-in_err-whole-clause-same t c =
+    keeps_more c.loop-at.invariant.same c.in_err-whole.ensures.same
+
+pub expression-returns-clause-same : goal.expression-returns-clause-same
+expression-returns-clause-same t c =
+    c.loop-at.invariant.same
+
+pub named-returns-in_default-spend-clause-same : goal.named-returns-in_default-spend-clause-same
+named-returns-in_default-spend-clause-same t c =
+    keeps_none _
+
+pub named-returns-clause-same : goal.named-returns-clause-same
+named-returns-clause-same t c =
+    keeps_none _
+
+pub primary-returns-in_default-clause-same : goal.primary-returns-in_default-clause-same
+primary-returns-in_default-clause-same t c =
+    keeps_none _
+
+pub primary-returns-in_default-constant-clause-same : goal.primary-returns-in_default-constant-clause-same
+primary-returns-in_default-constant-clause-same t c =
+    keeps_none _
+
+pub primary-returns-in-Some-constant-clause-same : goal.primary-returns-in-Some-constant-clause-same
+primary-returns-in-Some-constant-clause-same t c =
+    keeps_none _
+
+pub primary-returns-in_default-spend-clause-same : goal.primary-returns-in_default-spend-clause-same
+primary-returns-in_default-spend-clause-same t c =
+    keeps_none _
+
+pub primary-returns-in_err-tree-in-Including-clause-same : goal.primary-returns-in_err-tree-in-Including-clause-same
+primary-returns-in_err-tree-in-Including-clause-same t c =
+    keeps_none _
+
+pub primary-returns-in_ok-tree-in-Including-clause-same : goal.primary-returns-in_ok-tree-in-Including-clause-same
+primary-returns-in_ok-tree-in-Including-clause-same t c =
+    keeps_none _
+
+pub primary-returns-in_err-tree-in-Context-clause-same : goal.primary-returns-in_err-tree-in-Context-clause-same
+primary-returns-in_err-tree-in-Context-clause-same t c =
+    keeps_none _
+
+pub primary-returns-in_ok-tree-in-Context-clause-same : goal.primary-returns-in_ok-tree-in-Context-clause-same
+primary-returns-in_ok-tree-in-Context-clause-same t c =
+    keeps_none _
+
+pub primary-returns-in-Constituents-clause-same : goal.primary-returns-in-Constituents-clause-same
+primary-returns-in-Constituents-clause-same t c =
+    keeps_none _
+
+pub primary-returns-in_err-word-in-Word-clause-same : goal.primary-returns-in_err-word-in-Word-clause-same
+primary-returns-in_err-word-in-Word-clause-same t c =
+    keeps_none _
+
+pub primary-returns-in-Other-clause-same : goal.primary-returns-in-Other-clause-same
+primary-returns-in-Other-clause-same t c =
+    keeps_none _
+
+pub some_expressions-returns-in_err-next-clause-same : goal.some_expressions-returns-in_err-next-clause-same
+some_expressions-returns-in_err-next-clause-same t c =
+    keeps_more c.loop-more.invariant.same c.in_err-next.ensures.same
+
+pub some_expressions-returns-clause-same : goal.some_expressions-returns-clause-same
+some_expressions-returns-clause-same t c =
+    c.loop-more.invariant.same
+
+pub some_expressions-returns-in_err-push-clause-same : goal.some_expressions-returns-in_err-push-clause-same
+some_expressions-returns-in_err-push-clause-same t c =
+    keeps_more c.loop-more.invariant.same c.in_ok-next.ensures.same
+
+pub choice-returns-in_err-word-clause-same : goal.choice-returns-in_err-word-clause-same
+choice-returns-in_err-word-clause-same t c =
+    c.in_err-word.ensures.same if_among
+
+pub order-returns-in_err-word-clause-same : goal.order-returns-in_err-word-clause-same
+order-returns-in_err-word-clause-same t c =
+    c.in_err-word.ensures.same order_among
+
+pub unary-returns-in_err-word-clause-same : goal.unary-returns-in_err-word-clause-same
+unary-returns-in_err-word-clause-same t c =
+    c.in_err-word.ensures.same (prefix_among _ _ c.in-Some.ensures.1)
+
+pub operands-returns-in_err-word-clause-same : goal.operands-returns-in_err-word-clause-same
+operands-returns-in_err-word-clause-same t c =
+    c.in_err-word.ensures.same (infix_among _ _ _ c.in-Some.ensures.1)
+
+pub choice-returns-in_err-_opening-clause-same : goal.choice-returns-in_err-_opening-clause-same
+choice-returns-in_err-_opening-clause-same t c =
+    c.in_ok-word.ensures.same if_among
+
+pub order-returns-in_err-_opening-clause-same : goal.order-returns-in_err-_opening-clause-same
+order-returns-in_err-_opening-clause-same t c =
+    c.in_ok-word.ensures.same order_among
+
+pub counted-returns-in_err-word-clause-same : goal.counted-returns-in_err-word-clause-same
+counted-returns-in_err-word-clause-same t c =
+    c.in_err-word.ensures.same null_among
+
+pub counted-returns-then-is_key-clause-same : goal.counted-returns-then-is_key-clause-same
+counted-returns-then-is_key-clause-same t c =
+    c.in_ok-word.ensures.same null_among
+
+pub called-returns-in-Some-clause-same : goal.called-returns-in-Some-clause-same
+called-returns-in-Some-clause-same t c =
+    keeps_none _
+
+pub choice-returns-in_err-three-clause-same : goal.choice-returns-in_err-three-clause-same
+choice-returns-in_err-three-clause-same t c =
+    keeps_more (c.in_ok-word.ensures.same if_among) (keeps_more c.in_ok-first.ensures.same (keeps_more c.in_ok-second.ensures.same c.in_ok-third.ensures.same))
+
+pub unary-returns-in_err-one-clause-same : goal.unary-returns-in_err-one-clause-same
+unary-returns-in_err-one-clause-same t c =
+    keeps_more (c.in_ok-word.ensures.same (prefix_among _ _ c.in-Some.ensures.1)) c.in_ok-inner.ensures.same
+
+pub operands-returns-in_err-both-clause-same : goal.operands-returns-in_err-both-clause-same
+operands-returns-in_err-both-clause-same t c =
+    keeps_more (c.in_ok-word.ensures.same (infix_among _ _ _ c.in-Some.ensures.1)) c.in_ok-second.ensures.same

@@ -4,6 +4,7 @@ use Rattle.lido_base.specs.Texts.{IsDistinctTexts}
 use Rattle.lido_lexer.specs.Lexing.{Gains}
 use Rattle.lido_reader.specs.Expressions.{AreFurther, AreSome, IsExpr, continues}
 use Rattle.lido_reader.specs.Parts.{continues_list}
+use Rattle.lido_reader.specs.Added.{Keeps}
 use Rattle.lido_reader.proofs.expressions.+expression.Given as goal
 
 abbrev pub decreases-expression : goal.decreases-expression
@@ -44,6 +45,7 @@ invariant-some_expressions-loop-more l = record {
   leads : (texts : List (List ℕ)) → Gains l.strings texts → IsDistinctTexts texts → Leads (AreFurther texts (l.found.items, l.left)) continues_list l.rest (AreSome texts l.fn.counts) continues_list l.tokens;
   shorter : length l.rest < length l.tokens;
   kept : Gains l.fn.strings l.strings;
+  same : Keeps l.fn.strings l.strings;
   left : length l.strings + length l.rest ≤ length l.fn.strings + length l.tokens;
 }
 
@@ -57,6 +59,7 @@ invariant-expression-loop-at l = record {
   below : l.at ≤ 6;
   shorter : length l.rest < length l.tokens;
   kept : Gains l.fn.strings l.strings;
+  same : Keeps l.fn.strings l.strings;
   left : length l.strings + length l.rest ≤ length l.fn.strings + length l.tokens;
 }
 

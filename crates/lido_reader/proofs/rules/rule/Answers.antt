@@ -11,6 +11,7 @@ use Rattle.lido_reader.proofs.NamesOfRulesLemmas.{colon_names}
 use Rattle.lido_reader.proofs.RightSidesLemmas.{right_completable}
 use Rattle.lido_reader.proofs.TextsLemmas.{later_of}
 use Rattle.lido_reader.proofs.BodiesLemmas.{body_stops, body_completable}
+use Rattle.lido_reader.proofs.AddedLemmas.{some_of_same, some_of_all, adds_these, adds_then_keeps, rule_table}
 use Rattle.lido_reader.proofs.rules.rule.Goals as goal
 
 pub returns-in_err-word-clause-reads : goal.returns-in_err-word-clause-reads
@@ -42,3 +43,27 @@ returns-clause-reads c = λ texts later.
     let right : c.from_vec.result ≡ c.in_ok-right.right.elements.items = c.from_vec.ensures in
     let all : c.from_vec-2.result ≡ c.in_ok-computed.computed.all.items = c.from_vec-2.ensures in
     rw (right, all) (read_whole (go_on (go_past (body_stops (IsComputation texts) c.args.number (λ k. is_element_kind k || is_bar_kind k) refl refl _ _) (go_on (go_on (go_past (colon_names _ _) (go_on (leads_self (IsRule (called_in texts) (IsComputation texts) c.args.place c.args.number) nothing c.args.tokens.now) c.in_ok-word.ensures.reads) (c.in_ok-called.ensures.reads texts (later_of c.rule_name.new.strings c.body.new.strings texts c.body.ensures.kept later))) c.in_ok-behind_colon.ensures.reads) c.in_ok-left.ensures.reads) c.in_ok-right.ensures.reads) (c.in_ok-computed.ensures.reads texts later)))
+
+pub returns-in_err-word-clause-within : goal.returns-in_err-word-clause-within
+returns-in_err-word-clause-within c = some_of_same refl
+
+pub returns-in_err-called-clause-within : goal.returns-in_err-called-clause-within
+returns-in_err-called-clause-within c = some_of_same c.in_err-called.ensures.refused
+
+pub returns-in_err-behind_colon-clause-within : goal.returns-in_err-behind_colon-clause-within
+returns-in_err-behind_colon-clause-within c = some_of_all (adds_these (rule_table c.args.place c.args.tokens.now c.in_ok-word.behind_word.now c.in_ok-word.word c.args.strings.now c.rule_name.new.strings c.in_ok-word.ensures.reads c.in_ok-called.ensures.table))
+
+pub returns-in_err-left-clause-within : goal.returns-in_err-left-clause-within
+returns-in_err-left-clause-within c = some_of_all (adds_these (rule_table c.args.place c.args.tokens.now c.in_ok-word.behind_word.now c.in_ok-word.word c.args.strings.now c.rule_name.new.strings c.in_ok-word.ensures.reads c.in_ok-called.ensures.table))
+
+pub returns-in_err-right-clause-within : goal.returns-in_err-right-clause-within
+returns-in_err-right-clause-within c = some_of_all (adds_these (rule_table c.args.place c.args.tokens.now c.in_ok-word.behind_word.now c.in_ok-word.word c.args.strings.now c.rule_name.new.strings c.in_ok-word.ensures.reads c.in_ok-called.ensures.table))
+
+pub returns-in_err-computed-clause-within : goal.returns-in_err-computed-clause-within
+returns-in_err-computed-clause-within c = some_of_all (adds_then_keeps (rule_table c.args.place c.args.tokens.now c.in_ok-word.behind_word.now c.in_ok-word.word c.args.strings.now c.rule_name.new.strings c.in_ok-word.ensures.reads c.in_ok-called.ensures.table) c.in_err-computed.ensures.same)
+
+pub returns-clause-within : goal.returns-clause-within
+returns-clause-within c = some_of_all (adds_then_keeps (rule_table c.args.place c.args.tokens.now c.in_ok-word.behind_word.now c.in_ok-word.word c.args.strings.now c.rule_name.new.strings c.in_ok-word.ensures.reads c.in_ok-called.ensures.table) c.in_ok-computed.ensures.same)
+
+pub returns-clause-table : goal.returns-clause-table
+returns-clause-table c = adds_then_keeps (rule_table c.args.place c.args.tokens.now c.in_ok-word.behind_word.now c.in_ok-word.word c.args.strings.now c.rule_name.new.strings c.in_ok-word.ensures.reads c.in_ok-called.ensures.table) c.in_ok-computed.ensures.same

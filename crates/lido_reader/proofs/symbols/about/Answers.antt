@@ -4,6 +4,7 @@ use Rattle.lido_reader.specs.Computations.{IsComputation}
 use Rattle.lido_reader.specs.Items.{IsAbout, IsComputing, IsDeclaring}
 use Rattle.lido_reader.proofs.PhrasesLemmas.{refused_by}
 use Rattle.lido_reader.proofs.SymbolsLemmas.{declaring_leads, computing_leads}
+use Rattle.lido_reader.proofs.AddedLemmas.{keeps_none}
 use Rattle.lido_reader.proofs.symbols.about.Goals as goal
 
 pub returns-in_err-declared-clause-reads : goal.returns-in_err-declared-clause-reads
@@ -19,3 +20,9 @@ returns-in_err-computed-clause-reads c = λ texts later. let p = err_from_is_err
 
 pub returns-clause-reads : goal.returns-clause-reads
 returns-clause-reads c = λ texts later. let l = (computing_leads (IsComputation texts) (c.args.head.at, c.args.head.class) c.args.first c.args.number c.args.tokens.now (λ g. let it_is = c.is_declaring.ensures.1 g in cc (c.if-is_declaring.false))) in l.finds c.in_ok-computed.computed c.in_ok-computed.rest.now (c.in_ok-computed.ensures.reads texts later)
+
+pub returns-in_err-declared-clause-same : goal.returns-in_err-declared-clause-same
+returns-in_err-declared-clause-same c = keeps_none _
+
+pub returns-then-is_declaring-clause-same : goal.returns-then-is_declaring-clause-same
+returns-then-is_declaring-clause-same c = keeps_none _

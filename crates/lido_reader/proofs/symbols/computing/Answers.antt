@@ -9,6 +9,7 @@ use Rattle.lido_reader.proofs.PhrasesLemmas.{leads_self}
 use Rattle.lido_reader.proofs.PartsLemmas.{finish, then_finish, go_on, go_past, stuck_at, stuck_in, read_whole}
 use Rattle.lido_reader.proofs.BodiesLemmas.{body_completable}
 use Rattle.lido_reader.proofs.SymbolsLemmas.{inherited_stops}
+use Rattle.lido_reader.proofs.AddedLemmas.{keeps_none}
 use Rattle.lido_reader.proofs.symbols.computing.Goals as goal
 
 pub returns-in_err-classes-clause-reads : goal.returns-in_err-classes-clause-reads
@@ -26,3 +27,6 @@ returns-clause-reads c = λ texts later.
     let decls : c.new.result ≡ [] = c.new.ensures in
     let body : c.from_vec-3.result ≡ c.in_ok-computed.computed.all.items = c.from_vec-3.ensures in
     rw (names, inherits, decls, body) (read_whole (go_on (go_past (inherited_stops (IsComputation texts) c.args.number _ _) (leads_self (IsComputing (IsComputation texts) (c.args.head.at, c.args.head.class) c.args.first c.args.number) nothing c.args.tokens.now) c.in_ok-classes.ensures.reads) (c.in_ok-computed.ensures.reads texts later)))
+
+pub returns-in_err-classes-clause-same : goal.returns-in_err-classes-clause-same
+returns-in_err-classes-clause-same c = keeps_none _

@@ -5,6 +5,7 @@ use Rattle.lido_reader.specs.Items.{IsAbout, IsSymbol}
 use Rattle.lido_reader.proofs.PhrasesLemmas.{leads_self, name_completable, refused_by}
 use Rattle.lido_reader.proofs.PartsLemmas.{then_finish, go_on, stuck_at}
 use Rattle.lido_reader.proofs.SymbolsLemmas.{about_completable}
+use Rattle.lido_reader.proofs.AddedLemmas.{keeps_none}
 use Rattle.lido_reader.proofs.symbols.symbol.Goals as goal
 
 pub returns-in_err-head-clause-reads : goal.returns-in_err-head-clause-reads
@@ -21,3 +22,9 @@ returns-in_err-item-clause-reads c = λ texts later. let p = err_from_is_err_and
 
 pub returns-clause-reads : goal.returns-clause-reads
 returns-clause-reads c = λ texts later. let l = (go_on (go_on (leads_self (IsSymbol (IsComputation texts) c.args.number) nothing c.args.tokens.now) c.in_ok-head.ensures.reads) c.in_ok-first.ensures.reads) in l.finds c.in_ok-item.item c.in_ok-item.rest.now (c.in_ok-item.ensures.reads texts later)
+
+pub returns-in_err-head-clause-same : goal.returns-in_err-head-clause-same
+returns-in_err-head-clause-same c = keeps_none _
+
+pub returns-in_err-first-clause-same : goal.returns-in_err-first-clause-same
+returns-in_err-first-clause-same c = keeps_none _

@@ -1,0 +1,73 @@
+-- Which texts a reader of specifications adds to the table: the names of the rules that have none, once the names of all functions
+-- that operators and words stand for are there.
+use Rattle.std.specs.Prelude.{◌≡◌, ℕ, ◌+◌, Bool, true, false, not, IsTrue, if◌then◌else◌, List, [], ◌∷◌, ◌++◌, codes}
+use Rattle.std.specs.List.{list_any}
+use Rattle.std.specs.Str.{bytes_eq}
+use Rattle.lido_base.specs.Texts.{with_text}
+use Rattle.lido_lexer.specs.Lexing.{Gains}
+use Rattle.lido_lexer.specs.declared.keyword.Keyword.TheVariants as key
+use Rattle.lido_lexer.specs.declared.token.Token.{Token}
+use Rattle.lido_lexer.specs.declared.token.TokenKind.{TokenKind}
+use Rattle.lido_lexer.specs.declared.token.TokenKind.TheVariants as kind
+use Rattle.lido_reader.specs.Items.{is_word, rule_text}
+
+-- the functions that operators, IF, ORDER and PTGNULL stand for
+abbrev pub functions : List (List ℕ)
+functions = codes "OR" ∷ codes "AND" ∷ codes "EQ" ∷ codes "NE" ∷ codes "LT" ∷ codes "LE" ∷ codes "GT" ∷ codes "GE" ∷ codes "ADD" ∷ codes "SUB" ∷ codes "MUL" ∷ codes "DIV" ∷ codes "MOD"
+    ∷ codes "NEG" ∷ codes "NOT" ∷ codes "IF" ∷ codes "ORDER" ∷ codes "PTGNULL" ∷ []
+
+-- The texts once these are among them too: each new one goes behind the others, in order.
+unfoldable pub interned : List (List ℕ) → List (List ℕ) → List (List ℕ)
+interned texts [] = texts
+interned texts (text ∷ added) = interned (with_text texts text) added
+
+-- the text stands among the texts
+abbrev pub IsAmong : List (List ℕ) → List ℕ → Type 0
+IsAmong texts text = IsTrue (list_any (bytes_eq text) texts)
+
+-- Each of the names stands among the texts.
+pub record HasAll (names texts : List (List ℕ)) : Type 0 where
+  pub each : (name : List ℕ) → IsAmong names name → IsAmong texts name
+
+abbrev pub is_rule_kind : TokenKind → Bool
+is_rule_kind (kind.Key key.Rule) = true
+is_rule_kind _ = false
+
+-- a rule begins here
+abbrev pub is_rule : Token → Bool
+is_rule t = is_rule_kind t.what
+
+-- no name comes next
+abbrev pub lacks_name : List Token → Bool
+lacks_name [] = true
+lacks_name (t ∷ ts) = not (is_word t)
+
+-- behind RULE: the name of the rule of this number, if it has none
+abbrev pub called_names : ℕ → List Token → List (List ℕ)
+called_names k ts = if lacks_name ts then rule_text k ∷ [] else []
+
+-- what the first token adds, where k is the number of the rule that it begins, if it is RULE
+unfoldable pub first_names : ℕ → List Token → List (List ℕ)
+first_names k [] = []
+first_names k (t ∷ ts) = if is_rule t then called_names k ts else []
+
+-- The names of all rules that have none, in order, where the first rule has the number k: each RULE that no name follows adds one.
+unfoldable pub rule_names : ℕ → List Token → List (List ℕ)
+rule_names k [] = []
+rule_names k (t ∷ ts) = if is_rule t then (called_names k ts ++ rule_names (k + 1) ts) else rule_names k ts
+
+-- Where the names of all functions stand among the texts, none was added.
+pub record Keeps (old new : List (List ℕ)) : Type 0 where
+  pub same : HasAll functions old → new ≡ old
+
+-- Where the names of all functions stand among the texts, these names were added and no others.
+pub record Adds (names old new : List (List ℕ)) : Type 0 where
+  pub table : HasAll functions old → new ≡ interned old names
+
+-- Where they do, no others were added, and maybe not all of these yet.
+pub record AddsSome (names old new : List (List ℕ)) : Type 0 where
+  pub gains : HasAll functions old → Gains new (interned old names)
+
+-- Where they do, the names of all rules of the tokens, added to the old texts, give the same as those of what is left, added to the new ones.
+pub record Owes (k : ℕ) (ts : List Token) (old : List (List ℕ)) (j : ℕ) (us : List Token) (new : List (List ℕ)) : Type 0 where
+  pub table : HasAll functions old → interned old (rule_names k ts) ≡ interned new (rule_names j us)

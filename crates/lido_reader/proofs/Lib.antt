@@ -16,3 +16,5 @@ pub mod SilentLemmas
 pub mod RenamingLemmas
 pub mod SameSpecificationLemmas
 pub mod SamePlaceLemmas
+pub mod ExampleTree
+pub mod ExampleSyntax

@@ -1,0 +1,13 @@
+pub mod ChainLemmas
+pub mod ClimbLemmas
+pub mod CountLemmas
+pub mod DraftLemmas
+pub mod FitLemmas
+pub mod FormLemmas
+pub mod GrowLemmas
+pub mod ItemLemmas
+pub mod PathLemmas
+pub mod ShapeLemmas
+pub mod StepLemmas
+pub mod TableLemmas
+pub mod WalkLemmas

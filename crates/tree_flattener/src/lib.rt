@@ -1,0 +1,11 @@
+//! The flat tree of a written tree: under each list node stands a chain of cells.
+#![tactic(auto)]
+
+mod counts;
+mod draft;
+mod flatten_tree;
+mod forms;
+mod terminals;
+mod walk;
+
+pub use flatten_tree::flatten;

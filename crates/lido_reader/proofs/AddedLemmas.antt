@@ -20,23 +20,12 @@ use Rattle.lido_reader.specs.Phrases.{IsName, word}
 use Rattle.lido_reader.specs.Expressions.{infix_of, prefix_of}
 use Rattle.lido_reader.specs.Items.{is_word, is_word_kind, rule_text}
 use Rattle.lido_reader.specs.Specification.{IsLater}
-use Rattle.lido_reader.specs.Added.{functions, interned, IsAmong, HasAll, is_rule, is_rule_kind, lacks_name, called_names, first_names, rule_names, Keeps, Adds, AddsSome, Owes}
+use Rattle.lido_lexer.proofs.TablesLemmas.{interned_none, interned_one, interned_append}
+use Rattle.lido_lexer.specs.Tables.{interned}
+use Rattle.lido_reader.specs.Added.{functions, IsAmong, HasAll, is_rule, is_rule_kind, lacks_name, called_names, first_names, rule_names, Keeps, Adds, AddsSome, Owes}
 use Rattle.lido_reader.proofs.TextsLemmas.{gains_text}
 
 -- ---- what is added
-
-pub interned_none : (texts : List (List ℕ)) → interned texts [] ≡ texts
-unfolding interned
-interned_none texts = refl
-
-pub interned_one : (texts : List (List ℕ)) (text : List ℕ) → interned texts (text ∷ []) ≡ with_text texts text
-unfolding interned
-interned_one texts text = refl
-
-pub interned_append : (texts more others : List (List ℕ)) → interned texts (more ++ others) ≡ interned (interned texts more) others
-unfolding interned
-interned_append texts [] others = refl
-interned_append texts (text ∷ more) others = interned_append (with_text texts text) more others
 
 pub interned_gains : (texts added : List (List ℕ)) → Gains texts (interned texts added)
 unfolding interned

@@ -13,9 +13,6 @@ pub mod ItemsLemmas
 pub mod WholeLemmas
 pub mod AddedLemmas
 pub mod SilentLemmas
-pub mod RenamingLemmas
-pub mod SameSpecificationLemmas
-pub mod SamePlaceLemmas
 pub mod SureLemmas
 pub mod SurePlacesLemmas
 pub mod SureExpressionsLemmas

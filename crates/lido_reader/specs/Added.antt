@@ -5,6 +5,7 @@ use Rattle.std.specs.List.{list_any}
 use Rattle.std.specs.Str.{bytes_eq}
 use Rattle.lido_base.specs.Texts.{with_text}
 use Rattle.lido_lexer.specs.Lexing.{Gains}
+use Rattle.lido_lexer.specs.Tables.{interned}
 use Rattle.lido_lexer.specs.declared.keyword.Keyword.TheVariants as key
 use Rattle.lido_lexer.specs.declared.token.Token.{Token}
 use Rattle.lido_lexer.specs.declared.token.TokenKind.{TokenKind}
@@ -15,11 +16,6 @@ use Rattle.lido_reader.specs.Items.{is_word, rule_text}
 abbrev pub functions : List (List ℕ)
 functions = codes "OR" ∷ codes "AND" ∷ codes "EQ" ∷ codes "NE" ∷ codes "LT" ∷ codes "LE" ∷ codes "GT" ∷ codes "GE" ∷ codes "ADD" ∷ codes "SUB" ∷ codes "MUL" ∷ codes "DIV" ∷ codes "MOD"
     ∷ codes "NEG" ∷ codes "NOT" ∷ codes "IF" ∷ codes "ORDER" ∷ codes "PTGNULL" ∷ []
-
--- The texts once these are among them too: each new one goes behind the others, in order.
-unfoldable pub interned : List (List ℕ) → List (List ℕ) → List (List ℕ)
-interned texts [] = texts
-interned texts (text ∷ added) = interned (with_text texts text) added
 
 -- the text stands among the texts
 abbrev pub IsAmong : List (List ℕ) → List ℕ → Type 0

@@ -8,4 +8,3 @@ pub mod Items
 pub mod Specification
 pub mod Found
 pub mod Added
-pub mod Renaming

@@ -2,7 +2,8 @@
 ghost use Rattle.std.specs.Prelude.{◌≡◌, List, ℕ, map, OnOk};
 ghost use Rattle.std.specs.Borrow.{Bor};
 ghost use Rattle.lido_lexer.specs.Lexing.{Gains};
-ghost use Rattle.lido_reader.specs.Added.{HasAll, functions, interned};
+ghost use Rattle.lido_lexer.specs.Tables.{interned};
+ghost use Rattle.lido_reader.specs.Added.{HasAll, functions};
 
 use lido_base::{Memory, Strings};
 

@@ -3,7 +3,8 @@ ghost use Rattle.std.specs.Prelude.{◌≡◌, ◌+◌, ◌≤◌, List, ℕ, le
 ghost use Rattle.lido_base.specs.Reading.{Finds};
 ghost use Rattle.lido_base.specs.Texts.{with_text};
 ghost use Rattle.lido_lexer.specs.Lexing.{Gains};
-ghost use Rattle.lido_reader.specs.Added.{called_names, interned};
+ghost use Rattle.lido_lexer.specs.Tables.{interned};
+ghost use Rattle.lido_reader.specs.Added.{called_names};
 ghost use Rattle.lido_reader.specs.Items.{IsRuleName, called_in, is_word, rule_text};
 ghost use Rattle.lido_reader.specs.Specification.{IsLater};
 

@@ -2,7 +2,8 @@
 ghost use Rattle.std.specs.Prelude.{◌≡◌, ◌+◌, ◌≤◌, List as Sequence, ℕ, length, OnOk};
 ghost use Rattle.lido_base.specs.Phases.{Gives};
 ghost use Rattle.lido_lexer.specs.Lexing.{Gains};
-ghost use Rattle.lido_reader.specs.Added.{HasAll, functions, interned, rule_names};
+ghost use Rattle.lido_lexer.specs.Tables.{interned};
+ghost use Rattle.lido_reader.specs.Added.{HasAll, functions, rule_names};
 ghost use Rattle.lido_reader.specs.Specification.{IsLater, IsReading};
 
 use crate::ReadSpecFault;

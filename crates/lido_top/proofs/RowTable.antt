@@ -7,7 +7,7 @@ use Rattle.lido_lexer.specs.declared.token.TokenKind.{TokenKind}
 use Rattle.lido_lexer.specs.declared.token.TokenKind.TheVariants as kind
 use Rattle.lido_lexer.specs.Lexing.{shown_in, HasText}
 use Rattle.lido_lexer.specs.Tables.{interned, texts_in}
-use Rattle.lido_reader.specs.Added.{functions, interned as joined, rule_names}
+use Rattle.lido_reader.specs.Added.{functions, rule_names}
 use Rattle.lido_reader.specs.Specification.{IsSpecOf, IsReading}
 use Rattle.lido_reader.proofs.ExampleTree.{ADD, spelled, spec}
 use Rattle.lido_reader.proofs.ExampleSyntax.{is_spec}
@@ -45,9 +45,9 @@ pub have_texts : All (λ (t : Token). HasText (length table) t.what) spelled
 have_texts = λ k d less. has_text _ _ (AllPass-from_list_all (λ (t : Token). is_below (length table) t.what) spelled refl k d less)
 
 -- each rule has a name, so that the reader adds none
-same_table : joined table (rule_names 1 spelled) ≡ table
-unfolding joined rule_names
+same_table : interned table (rule_names 1 spelled) ≡ table
+unfolding interned rule_names
 same_table = refl
 
-pub is_reading : IsReading (joined table (rule_names 1 spelled)) spelled 241 (Ok spec)
+pub is_reading : IsReading (interned table (rule_names 1 spelled)) spelled 241 (Ok spec)
 is_reading = subst (λ (texts : List (List ℕ)). IsSpecOf texts spelled spec) (sym same_table) (is_spec table has_add)

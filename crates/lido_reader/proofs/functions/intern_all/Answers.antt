@@ -3,8 +3,9 @@ use Rattle.std.proofs.lemmas.Grind.{common_steps}
 use Rattle.std.proofs.lemmas.List.{map_more}
 use Rattle.std.specs.Borrow.{Bor}
 use Rattle.lido_lexer.proofs.Reading.{gains_none, gains_more}
-use Rattle.lido_reader.specs.Added.{interned}
-use Rattle.lido_reader.proofs.AddedLemmas.{interned_none, interned_more, gains_this}
+use Rattle.lido_lexer.specs.Tables.{interned}
+use Rattle.lido_lexer.proofs.TablesLemmas.{interned_none}
+use Rattle.lido_reader.proofs.AddedLemmas.{interned_more, gains_this}
 use Rattle.lido_reader.proofs.functions.intern_all.Goals as goal
 
 pub loop-name-init : goal.loop-name-init

@@ -1,8 +1,9 @@
 use Rattle.std.proofs.Common.{sym, ap, ◌∙◌}
 use Rattle.lido_reader.specs.Items.{called_in}
-use Rattle.lido_reader.specs.Added.{interned}
+use Rattle.lido_lexer.specs.Tables.{interned}
 use Rattle.lido_reader.proofs.NamesOfRulesLemmas.{named, unnamed}
-use Rattle.lido_reader.proofs.AddedLemmas.{interned_none, interned_one, called_named, called_unnamed}
+use Rattle.lido_lexer.proofs.TablesLemmas.{interned_none, interned_one}
+use Rattle.lido_reader.proofs.AddedLemmas.{called_named, called_unnamed}
 use Rattle.lido_reader.proofs.rule_names.rule_name.Goals as goal
 
 pub returns-in-Some-clause-reads : goal.returns-in-Some-clause-reads

@@ -21,3 +21,5 @@ pub mod SurePlacesLemmas
 pub mod SureExpressionsLemmas
 pub mod SureComputationsLemmas
 pub mod SureItemsLemmas
+pub mod ExampleTree
+pub mod ExampleSyntax

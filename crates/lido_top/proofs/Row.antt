@@ -1,6 +1,7 @@
 -- The job with the tree of 3 and 4.
-use Rattle.std.proofs.Common.{◌≡◌, ℕ, ℤ, ◌<◌, List, [], ◌∷◌, length, codes, pos, Some, None, Ok, refl, arith, rules, zero, suc, inl}
+use Rattle.std.proofs.Common.{◌≡◌, ℕ, ℤ, ◌<◌, ◌≤◌, List, [], ◌∷◌, length, codes, pos, Some, None, Ok, refl, arith, rules, zero, suc, inl}
 use Rattle.std.specs.Fmt.{digits, signed_decimal}
+use Rattle.lido_base.specs.Inputs.{most}
 use Rattle.lido_base.specs.Phases.{OneOf}
 use Rattle.sum_trees.specs.declared.form.TreeNode.{TreeNode}
 use Rattle.sum_trees.specs.declared.form.Child.TheVariants as children
@@ -9,12 +10,15 @@ use Rattle.sum_trees.specs.Trees.{Forest, none, node, leaf, marks_of, IsTree}
 use Rattle.sum_trees.proofs.Order.{tree_preorder}
 use Rattle.lido_top.specs.Sums.{value_at, sum_at, AllStay}
 use Rattle.lido_top.specs.Job.{sum_rules, IsResult}
-use Rattle.lido_top.specs.Answer.{TextOf, FirstPathOf, AnswerOf}
+use Rattle.lido_top.specs.Answer.{TokensOf, SyntaxOf, PatternsOf, FirstPathOf, TextOf, AnswerOf}
 use Rattle.lido_top.proofs.SumsLemmas.{only_one}
 use Rattle.lido_top.proofs.RowText.{one_word, tree_text, job, sections}
 use Rattle.lido_top.proofs.RowWords.{said, is_said}
 use Rattle.lido_top.proofs.RowSections.{is_cut}
-use Rattle.lido_top.proofs.RowTokens.{tokens, are_tokens}
+use Rattle.lido_reader.proofs.ExampleTree.{spelled as tokens, spec}
+use Rattle.lido_top.proofs.RowTable.{table, is_reading}
+use Rattle.lido_top.proofs.RowTokens.{is_lexed}
+use Rattle.lido_top.proofs.RowPatterns.{has_no_patterns}
 
 abbrev below : Forest
 below = node 1 (node 2 (leaf (pos 3) none) (node 2 (leaf (pos 4) none) none)) none
@@ -123,7 +127,8 @@ is_result = record {
 }
 
 pub is_answer : AnswerOf one_word job (Ok (codes "7"))
-unfolding OneOf TextOf FirstPathOf
+unfolding OneOf TextOf TokensOf SyntaxOf PatternsOf FirstPathOf
 is_answer =
     let size : length job ≡ 286 = refl in
-    inl (said, is_said, inl (tt, omega (arith, size), inl (sections, is_cut, inl (tokens, are_tokens, is_result))))
+    let few : length job ≤ most = omega (arith, size) in
+    inl (said, is_said, inl (tt, few, inl (sections, is_cut, inl ((table, tokens), is_lexed, inl (spec, is_reading, inl ([], has_no_patterns _, is_result))))))

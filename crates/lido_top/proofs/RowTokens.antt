@@ -1,5 +1,5 @@
 -- The tokens of the example's specification, found by a search of which each step is a step of `Lexes`.
-use Rattle.std.proofs.Common.{◌≡◌, ℕ, zero, suc, ◌<◌, pos, Bool, true, false, ◌==◌, nat_le, nat_lt, List, [], ◌∷◌, length, take_while, Option, Some, None, option_map, is_some, Ok, IsTrue, refl, ap, ◌∙◌}
+use Rattle.std.proofs.Common.{◌≡◌, ℕ, zero, suc, ◌<◌, pos, Bool, true, false, ◌==◌, nat_le, nat_lt, List, [], ◌∷◌, length, take_while, Option, Some, None, option_map, is_some, Ok, IsTrue, refl, sym, subst, ap, map, ◌∙◌}
 use Rattle.std.proofs.lemmas.Bool.{leb-true, ltb-true, eqb-true}
 use Rattle.lido_lexer.specs.declared.keyword.Keyword.{Keyword}
 use Rattle.lido_lexer.specs.declared.sign.Sign.{Sign as SignOf}
@@ -8,9 +8,13 @@ use Rattle.lido_lexer.specs.Gaps.{white}
 use Rattle.lido_lexer.specs.Keywords.{keyword_of}
 use Rattle.lido_lexer.specs.Signs.{begins_comment, sign_of}
 use Rattle.lido_lexer.specs.Tokens.{Shown, Word, Key, Int, Literal, Sign, IsFront}
-use Rattle.lido_lexer.specs.Lexing.{Placed, placed, Lexes, ended, after_gap, with_token, Lexing}
-use Rattle.lido_top.specs.Answer.{part, TokensOf}
+use Rattle.lido_lexer.specs.Lexing.{Placed, placed, Lexes, ended, after_gap, with_token, Lexing, shown_in}
+use Rattle.lido_lexer.specs.Tables.{LexedFrom}
+use Rattle.lido_reader.specs.Added.{functions}
+use Rattle.lido_top.specs.Answer.{part}
 use Rattle.lido_top.proofs.RowText.{job, sections}
+use Rattle.lido_reader.proofs.ExampleTree.{spelled}
+use Rattle.lido_top.proofs.RowTable.{table, is_interned, have_texts}
 
 abbrev Found : ℕ → List ℕ → Type 0
 Found size bytes = (tokens : List Placed) × Lexes size bytes tokens
@@ -83,9 +87,11 @@ lexed : Found 241 (part job sections.spec)
 unfolding keyword_of sign_of turns step step_by name_by number_by literal_by closed_by sign_by with_front with_gap
 lexed = held (turns 241 200 (part job sections.spec)) refl
 
-pub tokens : List Placed
-tokens = lexed.0
+-- the tokens by their ids are shown as those that the search found
+shown : map (shown_in table) spelled ≡ lexed.0
+unfolding lexed held
+shown = refl
 
-pub are_tokens : TokensOf job sections (Ok tokens)
-unfolding TokensOf Lexing tokens
-are_tokens = lexed.1
+pub is_lexed : LexedFrom functions (part job sections.spec) (Ok (table, spelled))
+unfolding LexedFrom Lexing
+is_lexed = record { spelled = subst (λ (tokens : List Placed). Lexes 241 (part job sections.spec) tokens) (sym shown) lexed.1; table = is_interned; ids = have_texts }

@@ -1,12 +1,19 @@
 -- The steps from an input to its text give its result.
-use Rattle.std.proofs.Common.{◌≡◌, ◌⊎◌, ℕ, List, Result, Ok, Err, inl, inr, ◌∙◌}
-use Rattle.lido_base.specs.Phases.{IsThe, OneOf}
+use Rattle.std.proofs.Common.{◌≡◌, ◌⊎◌, ℕ, List, Result, Ok, Err, inl, inr, sym, ap, subst, ◌∙◌}
+use Rattle.lido_base.specs.Phases.{IsThe, OneOf, Then, Gives}
+use Rattle.lido_base.specs.declared.pattern.Pattern.{Pattern}
+use Rattle.lido_lexer.specs.declared.token.Token.{Token}
+use Rattle.lido_syntax.specs.declared.spec.Spec.{Spec}
+use Rattle.lido_reader.specs.Added.{HasAll, IsAmong, functions}
+use Rattle.job_text.specs.declared.cutting.Sections.{Sections}
+use Rattle.order_report.specs.declared.status.Status.{Status}
 use Rattle.lido_base.proofs.PhasesLemmas.{the_one_of, one_as, none_as}
 use Rattle.sum_trees.specs.declared.form.FormFault.{FormFault}
 use Rattle.sum_trees.specs.declared.form.FormFault.TheVariants as fault
 use Rattle.order_report.specs.declared.status.Status.TheVariants as status
 use Rattle.lido_top.specs.Job.{IsResult}
-use Rattle.lido_top.specs.Answer.{FirstPathOf}
+use Rattle.lido_top.specs.Answer.{behind_spec, size_of, SectionsOf, TokensOf, SyntaxOf, PatternsOf, FirstPathOf, TextOf}
+use Rattle.lido_top.proofs.Wrapping.{gives_next, gives_stop}
 use Rattle.lido_top.specs.Steps.{ValueOf, NumberOf}
 
 number_on : (bytes text : List ℕ) → NumberOf bytes (Ok text) → IsResult bytes text
@@ -39,3 +46,62 @@ pub text_none : (bytes : List ℕ) (e : FormFault) → e ≡ fault.Outside → (
 unfolding FirstPathOf
 text_none bytes e is (inl memory) = absurd (cc)
 text_none bytes e is (inr the) = none_as (IsResult bytes) fault.Outside e status.FirstPathOnly (the_result bytes (Err e) the)
+
+-- ---- the text of an input, phase by phase
+
+-- what comes behind the form of the specification
+abbrev pub BehindSyntax : List ℕ → Sections → List (List ℕ) × List Token → Spec → Result (List ℕ) Status → Type 0
+BehindSyntax bytes sections read = λ spec. Then (PatternsOf (behind_spec read) bytes sections) (λ patterns. FirstPathOf bytes)
+
+-- what comes behind the tokens
+abbrev pub BehindTokens : List ℕ → Sections → List (List ℕ) × List Token → Result (List ℕ) Status → Type 0
+BehindTokens bytes sections = λ read. Then (SyntaxOf read (size_of sections.spec)) (BehindSyntax bytes sections read)
+
+-- what comes behind the sections
+abbrev pub BehindSections : List ℕ → Sections → Result (List ℕ) Status → Type 0
+BehindSections bytes = λ sections. Then (TokensOf functions bytes sections) (BehindTokens bytes sections)
+
+module _ {X : Type 0} (view : X → List ℕ) (bytes : List ℕ) where
+  pub sections_stop : (e : Status) → (e ≡ status.Memory) ⊎ IsThe (SectionsOf bytes) (Err e) → Gives view (TextOf bytes) status.Memory (Err e)
+  unfolding TextOf
+  sections_stop e given = gives_stop view (SectionsOf bytes) (BehindSections bytes) status.Memory e given
+
+  pub sections_next : (s : Sections) (r : Result X Status) → IsThe (SectionsOf bytes) (Ok s) → Gives view (BehindSections bytes s) status.Memory r → Gives view (TextOf bytes) status.Memory r
+  unfolding TextOf
+  sections_next s r first next = gives_next view (SectionsOf bytes) (BehindSections bytes) status.Memory s r first next
+
+  module _ (s : Sections) (texts : List (List ℕ)) (table : texts ≡ functions) where
+    pub tokens_stop : (e : Status) → (e ≡ status.Memory) ⊎ IsThe (TokensOf texts bytes s) (Err e) → Gives view (BehindSections bytes s) status.Memory (Err e)
+    tokens_stop e given = gives_stop view (TokensOf functions bytes s) (BehindTokens bytes s) status.Memory e
+        (subst (λ (l : List (List ℕ)). (e ≡ status.Memory) ⊎ IsThe (TokensOf l bytes s) (Err e)) table given)
+
+    pub tokens_next : (read : List (List ℕ) × List Token) (r : Result X Status) → IsThe (TokensOf texts bytes s) (Ok read) → Gives view (BehindTokens bytes s read) status.Memory r
+        → Gives view (BehindSections bytes s) status.Memory r
+    tokens_next read r first next = gives_next view (TokensOf functions bytes s) (BehindTokens bytes s) status.Memory read r
+        (subst (λ (l : List (List ℕ)). IsThe (TokensOf l bytes s) (Ok read)) table first) next
+
+  module _ (s : Sections) (texts : List (List ℕ)) (tokens seen : List Token) (same : seen ≡ tokens) where
+    pub syntax_stop : (e : Status) → (e ≡ status.Memory) ⊎ IsThe (SyntaxOf (texts, seen) (size_of s.spec)) (Err e) → Gives view (BehindTokens bytes s (texts, tokens)) status.Memory (Err e)
+    syntax_stop e given = gives_stop view (SyntaxOf (texts, tokens) (size_of s.spec)) (BehindSyntax bytes s (texts, tokens)) status.Memory e
+        (subst (λ (l : List Token). (e ≡ status.Memory) ⊎ IsThe (SyntaxOf (texts, l) (size_of s.spec)) (Err e)) same given)
+
+    pub syntax_next : (spec : Spec) (r : Result X Status) → IsThe (SyntaxOf (texts, seen) (size_of s.spec)) (Ok spec) → Gives view (BehindSyntax bytes s (texts, tokens) spec) status.Memory r
+        → Gives view (BehindTokens bytes s (texts, tokens)) status.Memory r
+    syntax_next spec r first next = gives_next view (SyntaxOf (texts, tokens) (size_of s.spec)) (BehindSyntax bytes s (texts, tokens)) status.Memory spec r
+        (subst (λ (l : List Token). IsThe (SyntaxOf (texts, l) (size_of s.spec)) (Ok spec)) same first) next
+
+    module _ (later : List (List ℕ)) (table : later ≡ behind_spec (texts, seen)) (spec : Spec) where
+      behind : later ≡ behind_spec (texts, tokens)
+      behind = table ∙ ap (λ (l : List Token). behind_spec (texts, l)) same
+
+      pub patterns_stop : (e : Status) → (e ≡ status.Memory) ⊎ IsThe (PatternsOf later bytes s) (Err e) → Gives view (BehindSyntax bytes s (texts, tokens) spec) status.Memory (Err e)
+      patterns_stop e given = gives_stop view (PatternsOf (behind_spec (texts, tokens)) bytes s) (λ patterns. FirstPathOf bytes) status.Memory e
+          (subst (λ (l : List (List ℕ)). (e ≡ status.Memory) ⊎ IsThe (PatternsOf l bytes s) (Err e)) behind given)
+
+      pub patterns_next : (patterns : List Pattern) (r : Result X Status) → IsThe (PatternsOf later bytes s) (Ok patterns) → Gives view (FirstPathOf bytes) status.Memory r
+          → Gives view (BehindSyntax bytes s (texts, tokens) spec) status.Memory r
+      patterns_next patterns r first next = gives_next view (PatternsOf (behind_spec (texts, tokens)) bytes s) (λ patterns. FirstPathOf bytes) status.Memory patterns r
+          (subst (λ (l : List (List ℕ)). IsThe (PatternsOf l bytes s) (Ok patterns)) behind first) next
+
+pub all_functions : (texts : List (List ℕ)) → texts ≡ functions → HasAll functions texts
+all_functions texts table = record { each = λ name among. subst (λ (l : List (List ℕ)). IsAmong l name) (sym table) among }

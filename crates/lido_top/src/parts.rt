@@ -1,23 +1,26 @@
 //! What the parts of a job text say.
-ghost use Rattle.std.specs.Prelude.{◌≡◌, ◌≤◌, map, length, IfOk, IfErr};
+ghost use Rattle.std.specs.Prelude.{◌≡◌, ◌≤◌, length, IfOk, IfErr, OnOk};
 ghost use Rattle.lido_base.specs.Inputs.{most};
 ghost use Rattle.lido_base.specs.Phases.{Gives};
-ghost use Rattle.lido_lexer.specs.Lexing.{shown_in};
+ghost use Rattle.lido_reader.specs.Added.{HasAll, functions};
 ghost use Rattle.order_report.specs.declared.status.Status.{Status};
 ghost use Rattle.lido_top.specs.Refusals.{IsRefusal};
-ghost use Rattle.lido_top.specs.Answer.{IsWithin, part, SectionsOf, TokensOf};
+ghost use Rattle.lido_top.specs.Answer.{IsWithin, part, behind_spec, PatternsOf, SectionsOf, SyntaxOf, TokensOf};
 
 use job_text::{CutFault, Sections, Span, cut};
-use lido_base::Strings;
+use lido_base::{Patterns, Strings};
 use lido_lexer::{LexFault, Token, lex};
-use lido_syntax::SpecFault;
+use lido_reader::{ReadSpecFault, intern_functions, read_spec};
+use lido_syntax::{Spec, SpecFault};
 use order_report::Status;
+use ptg_patterns::{PtgFault, read_patterns};
 use std::alloc::Global;
 
 /// The bytes of a part.
 fn part(bytes: &[u8], span: Span) -> &[u8]
     requires { IsWithin bytes.now span }
-    ensures { result.now ≡ part bytes.now span }
+    ensures is { result.now ≡ part bytes.now span }
+    ensures shorter { length result.now ≤ length bytes.now }
 {
     &bytes[span.from as usize..span.to as usize]
 }
@@ -28,11 +31,24 @@ pub fn sections_of(bytes: &[u8]) -> Result<Sections, Status>
     ensures gives { Gives (λ sections. sections) (SectionsOf bytes.now) Status.Memory result }
     ensures refusal { IfErr result IsRefusal }
     ensures within { IfOk result (λ sections. IsWithin bytes.now sections.spec) }
+    ensures ptg_within { IfOk result (λ sections. IsWithin bytes.now sections.ptg) }
 {
     match cut(bytes) {
         Ok(sections) => Ok(sections),
         Err(CutFault::NoPtg) => Err(Status::NoPtg),
         Err(CutFault::NoTree) => Err(Status::NoTree),
+    }
+}
+
+/// A table of the names of all functions that operators stand for, and of no other texts. Its hashes are keyed by the input.
+pub fn first_texts(alloc: Global, bytes: &[u8]) -> Result<Strings, Status>
+    ensures table { IfOk result (λ strings. strings ≡ functions) }
+    ensures memory { IfErr result (λ status. status ≡ Status.Memory) }
+{
+    let mut strings = Strings::keyed_by(alloc, bytes);
+    match intern_functions(&mut strings) {
+        Ok(()) => Ok(strings),
+        Err(_) => Err(Status::Memory),
     }
 }
 
@@ -45,12 +61,53 @@ pub fn tokens_of(
 ) -> Result<Vec<Token>, Status>
     requires few { length bytes.now ≤ most }
     requires within { IsWithin bytes.now sections.spec }
-    ensures gives { Gives (λ tokens. map (shown_in strings.new) tokens.items) (TokensOf bytes.now sections) Status.Memory result }
+    ensures gives { Gives (λ tokens. (strings.new, tokens.items)) (TokensOf strings.old bytes.now sections) Status.Memory result }
     ensures refusal { IfErr result IsRefusal }
+    ensures there { HasAll functions strings.old → HasAll functions strings.new }
 {
     match lex(alloc, part(bytes, sections.spec), strings) {
         Ok(tokens) => Ok(tokens),
         Err(LexFault::Lexical { at }) => Err(Status::Spec(SpecFault::Lexical { at })),
         Err(LexFault::Memory) => Err(Status::Memory),
+    }
+}
+
+/// The specification that the tokens of a text of this size are, or the status of the place where they stop being one.
+pub fn syntax_of(
+    alloc: Global,
+    tokens: &[Token],
+    size: u32,
+    strings: &mut Strings,
+) -> Result<Spec, Status>
+    requires { HasAll functions strings.old }
+    ensures gives { Gives (λ spec. spec) (SyntaxOf (strings.old, tokens.now) size) Status.Memory result }
+    ensures refusal { IfErr result IsRefusal }
+    ensures table { OnOk result (strings.new ≡ behind_spec (strings.old, tokens.now)) }
+{
+    match read_spec(alloc, tokens, size, strings) {
+        Ok(spec) => Ok(spec),
+        Err(ReadSpecFault::Syntax { at }) => Err(Status::Spec(SpecFault::Syntax { at })),
+        Err(ReadSpecFault::Memory) => Err(Status::Memory),
+    }
+}
+
+/// The patterns, or the status of their first fault.
+pub fn patterns_of(
+    alloc: Global,
+    bytes: &[u8],
+    sections: Sections,
+    strings: &mut Strings,
+) -> Result<Patterns, Status>
+    requires few { length bytes.now ≤ most }
+    requires within { IsWithin bytes.now sections.ptg }
+    ensures gives { Gives (λ patterns. patterns.list) (PatternsOf strings.old bytes.now sections) Status.Memory result }
+    ensures refusal { IfErr result IsRefusal }
+{
+    match read_patterns(alloc, part(bytes, sections.ptg), strings) {
+        Ok(patterns) => Ok(patterns),
+        Err(PtgFault::PtgSyntax { at }) => Err(Status::Spec(SpecFault::PtgSyntax { at })),
+        Err(PtgFault::PtgDuplicate { at }) => Err(Status::Spec(SpecFault::PtgDuplicate { at })),
+        Err(PtgFault::PtgMixed { at }) => Err(Status::Spec(SpecFault::PtgMixed { at })),
+        Err(PtgFault::Memory) => Err(Status::Memory),
     }
 }

@@ -9,9 +9,8 @@ ghost use Rattle.lido_top.specs.Answer.{FirstPathOf, TextOf};
 ghost use Rattle.lido_top.specs.Steps.{IsTopText, ValueOf, NumberOf};
 
 use crate::job::{sum_rules, tree_part};
-use crate::parts::{sections_of, tokens_of};
+use crate::parts::{first_texts, patterns_of, sections_of, syntax_of, tokens_of};
 use crate::sums::evaluate;
-use lido_base::Strings;
 use order_report::Status;
 use std::alloc::{AllocError, Global};
 use sum_trees::{FormFault, SumRule, read_sum_tree};
@@ -73,7 +72,6 @@ fn first_path(alloc: Global, bytes: &[u8]) -> Result<String, Status>
 }
 
 /// The text of the input, or the status of the first refusal that stands in it.
-#[tactic(auto, unfolding(crate::specs::Answer::TextOf))]
 pub fn text_of(alloc: Global, bytes: &[u8]) -> Result<String, Status>
     requires { length bytes.now ≤ most }
     ensures gives { Gives string_bytes (TextOf bytes.now) Status.Memory result }
@@ -83,8 +81,20 @@ pub fn text_of(alloc: Global, bytes: &[u8]) -> Result<String, Status>
         Ok(sections) => sections,
         Err(status) => return Err(status),
     };
-    let mut strings = Strings::keyed_by(alloc, bytes);
-    match tokens_of(alloc, bytes, sections, &mut strings) {
+    let mut strings = match first_texts(alloc, bytes) {
+        Ok(strings) => strings,
+        Err(status) => return Err(status),
+    };
+    let tokens = match tokens_of(alloc, bytes, sections, &mut strings) {
+        Ok(tokens) => tokens,
+        Err(status) => return Err(status),
+    };
+    let size = sections.spec.to - sections.spec.from;
+    match syntax_of(alloc, &tokens, size, &mut strings) {
+        Ok(_) => {}
+        Err(status) => return Err(status),
+    }
+    match patterns_of(alloc, bytes, sections, &mut strings) {
         Ok(_) => {}
         Err(status) => return Err(status),
     }

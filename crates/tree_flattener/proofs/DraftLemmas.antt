@@ -1,25 +1,23 @@
 -- How a draft goes on: a node is attached, or the walk goes up from a node that is closed.
-use Rattle.std.specs.Prelude.{Contains, slice_get, true, false, Bool, take, filter_map}
-use Rattle.std.proofs.Common.{◌≡◌, ℕ, zero, suc, ◌+◌, ◌*◌, ◌<◌, ◌≤◌, ◌⊎◌, inl, inr, List, [], ◌∷◌, ◌++◌, length, Option, Some, None, refl, ap, sym, subst, ◌∙◌, arith, length-append}
+use Rattle.std.specs.Prelude.{Contains, slice_get, true, false, Bool}
+use Rattle.std.proofs.Common.{◌≡◌, ℕ, zero, suc, ◌<◌, ◌≤◌, ◌⊎◌, inl, inr, List, [], ◌∷◌, ◌++◌, length, Some, refl, ap, sym, subst, ◌∙◌, arith, length-append}
 use Rattle.std.proofs.lemmas.Bool.{cases_lt}
 use Rattle.std.proofs.lemmas.Bool.Decides.{eqb_tells}
 use Rattle.std.proofs.lemmas.Option.{slice_get_within}
 use Rattle.std.proofs.Math.Nat.{eq-or-lt_of_le}
 use Rattle.std.specs.Prelude.{nat_eq}
 use Rattle.lido_base.specs.declared.ids.SymId.{SymId}
-use Rattle.lido_base.specs.declared.value.Value.{Value}
-use Rattle.lido_base.specs.Tree.{Tree, Item, Child, Leaf, IsTree, parent_of, place_of, items_of, item_at, rule_at, child_number, children, ancestors}
-use Rattle.lido_base.proofs.TreeLemmas.{ancestors-child, children_behind, parent_before}
+use Rattle.lido_base.specs.Tree.{Child, parent_of, place_of, item_at, rule_at, ancestors}
+use Rattle.lido_base.proofs.TreeLemmas.{ancestors-child, parent_before}
 use Rattle.flat_grammar.specs.declared.flat.FlatSymbol.{FlatSymbol}
 use Rattle.flat_grammar.specs.declared.flat.FlatRule.{FlatRule}
 use Rattle.flat_grammar.specs.declared.flat.Shape.{Shape}
 use Rattle.flat_grammar.specs.WellFormed.{cell_of}
 use Rattle.flat_grammar.specs.FlatTrees.{StandsFor, IsFlatTree}
-use Rattle.tree_store.specs.Growth.{IsOpen}
 use Rattle.tree_store.proofs.GrowthLemmas.{get_before, get_last}
 use Rattle.tree_store.proofs.OpenLemmas.{open_upwards}
-use Rattle.tree_flattener.specs.Drafts.{Table, IsOnPath, Grows, Suits, IsUpToAs, IsWholeAs, IsUpTo, IsWhole, IsNumbered, IsDraft, IsAttached, IsClosed}
-use Rattle.tree_flattener.proofs.PathLemmas.{above_self, parent_above, above_parent, above_before, path_up, before_up, behind_up, child_parent, with_parent_inside, on_path_before, place_inside}
+use Rattle.tree_flattener.specs.Drafts.{Table, IsOnPath, Suits, IsUpToAs, IsWholeAs, IsUpTo, IsWhole, IsNumbered, IsDraft, IsAttached, IsClosed}
+use Rattle.tree_flattener.proofs.PathLemmas.{above_self, parent_above, above_parent, above_before, path_up, before_up, behind_up, child_parent, on_path_before, place_inside}
 use Rattle.tree_flattener.proofs.GrowLemmas.{stands_grows, stands_before, up_to_grows, whole_grows, some_same}
 use Rattle.tree_flattener.proofs.ItemLemmas.{there}
 

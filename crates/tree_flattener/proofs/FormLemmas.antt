@@ -1,5 +1,5 @@
 -- The form of a written node, and what it asks for.
-use Rattle.std.specs.Prelude.{Contains, slice_get, true, false, Bool}
+use Rattle.std.specs.Prelude.{Contains, slice_get}
 use Rattle.std.proofs.Common.{◌≡◌, ℕ, ◌<◌, List, length, get_or, Some, sym, subst, ap, ◌∙◌}
 use Rattle.std.proofs.lemmas.Option.{slice_get_within, get_or_from_slice_get}
 use Rattle.lido_base.specs.Tree.{rule_at}

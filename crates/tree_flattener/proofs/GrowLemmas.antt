@@ -1,17 +1,17 @@
 -- What stays where a flat tree grows.
-use Rattle.std.specs.Prelude.{Contains, slice_get, IsTrue, true, false, Bool, take, filter_map}
-use Rattle.std.proofs.Common.{◌≡◌, ℕ, zero, suc, ◌+◌, ◌<◌, ◌≤◌, ◌⊎◌, inl, inr, List, [], ◌∷◌, ◌++◌, length, Option, Some, None, refl, ap, sym, subst, ◌∙◌, arith, length-append}
+use Rattle.std.specs.Prelude.{slice_get, true, false, Bool, take, filter_map}
+use Rattle.std.proofs.Common.{◌≡◌, ℕ, zero, suc, ◌+◌, ◌<◌, ◌≤◌, List, [], ◌∷◌, ◌++◌, length, Some, refl, ap, sym, subst, ◌∙◌, arith}
 use Rattle.std.proofs.lemmas.Option.{slice_get_within}
 use Rattle.lido_base.specs.declared.ids.SymId.{SymId}
 use Rattle.lido_base.specs.declared.value.Value.{Value}
-use Rattle.lido_base.specs.Tree.{Tree, Node, Item, Child, Leaf, IsTree, parent_of, items_of, rule_at, with_item, with_node, places, child_number, children}
+use Rattle.lido_base.specs.Tree.{Node, Item, Child, Leaf, IsTree, parent_of, items_of, rule_at, with_item, with_node, child_number, children}
 use Rattle.flat_grammar.specs.declared.flat.FlatSymbol.{FlatSymbol}
 use Rattle.flat_grammar.specs.declared.flat.FlatRule.{FlatRule}
 use Rattle.flat_grammar.specs.declared.flat.Shape.{Shape}
 use Rattle.flat_grammar.specs.Rules.{HasRule}
-use Rattle.flat_grammar.specs.FlatTrees.{StandsFor, AreItems, AreCells, is_cell}
+use Rattle.flat_grammar.specs.FlatTrees.{StandsFor, AreItems, AreCells}
 use Rattle.tree_store.specs.Growth.{IsOpen}
-use Rattle.tree_store.proofs.GrowthLemmas.{get_before, get_last, length-with_item, parent_of-with_item, items_of-with_item, items_of-with_item_other, length-grown, parent_of-grown, parent_of-added, items_of-parent, items_of-other, IsTree-with_node, IsTree-leaf, open_inside}
+use Rattle.tree_store.proofs.GrowthLemmas.{get_before, get_last, length-with_item, parent_of-with_item, items_of-with_item_other, length-grown, parent_of-grown, parent_of-added, items_of-parent, items_of-other, IsTree-with_node, IsTree-leaf, open_inside}
 use Rattle.tree_store.proofs.OpenLemmas.{open_added, open_parent, open_kept}
 use Rattle.tree_flattener.specs.Drafts.{Table, Grows, Fills, IsCellOf, IsChain, IsUpToAs, IsWholeAs}
 

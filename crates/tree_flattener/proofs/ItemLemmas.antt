@@ -1,13 +1,10 @@
 -- The items of a node from the last child on up to the next one.
-use Rattle.std.specs.Prelude.{slice_get, take, filter_map}
-use Rattle.std.proofs.Common.{◌≡◌, ℕ, zero, suc, ◌+◌, ◌<◌, ◌≤◌, ◌⊎◌, inl, inr, List, [], ◌∷◌, ◌++◌, length, Option, Some, None, refl, ap, sym, subst, ◌∙◌, arith, add-one, length-append}
-use Rattle.std.proofs.Math.Nat.{eq-or-lt_of_le}
-use Rattle.std.proofs.Math.Seq.{take-length}
+use Rattle.std.specs.Prelude.{slice_get, take}
+use Rattle.std.proofs.Common.{◌≡◌, ℕ, zero, suc, ◌+◌, ◌<◌, ◌≤◌, ◌⊎◌, inl, inr, List, [], ◌∷◌, ◌++◌, length, Some, refl, ap, sym, subst, ◌∙◌, arith, add-one, length-append}
 use Rattle.std.proofs.lemmas.Bool.{cases_lt}
-use Rattle.std.proofs.lemmas.List.Elements.{filter_map-append}
 use Rattle.std.proofs.lemmas.Option.{slice_get_within}
 use Rattle.lido_base.specs.declared.value.Value.{Value}
-use Rattle.lido_base.specs.Tree.{Tree, Item, Child, Leaf, IsTree, child_number, parent_of, place_of, items_of, item_at, children, with_item, rule_at}
+use Rattle.lido_base.specs.Tree.{Item, Child, Leaf, IsTree, parent_of, place_of, items_of, item_at, with_item, rule_at}
 use Rattle.flat_grammar.specs.declared.flat.FlatSymbol.{FlatSymbol}
 use Rattle.flat_grammar.specs.declared.flat.FlatRule.{FlatRule}
 use Rattle.flat_grammar.specs.declared.flat.Shape.{Shape}
@@ -15,7 +12,7 @@ use Rattle.flat_grammar.specs.FlatTrees.{AreItems, StandsFor}
 use Rattle.tree_store.specs.Growth.{IsTerminal}
 use Rattle.tree_store.proofs.GrowthLemmas.{items_of-with_item}
 use Rattle.tree_flattener.proofs.GrowLemmas.{rule_at-with_item}
-use Rattle.tree_flattener.specs.Drafts.{Table, Fills}
+use Rattle.tree_flattener.specs.Drafts.{Table}
 use Rattle.tree_flattener.proofs.PathLemmas.{ascending, own_item}
 
 pub there : {X : Type 0} (xs : List X) (k : ℕ) → k < length xs → (x : X) × (slice_get xs k ≡ Some x)

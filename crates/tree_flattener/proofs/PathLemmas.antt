@@ -1,5 +1,5 @@
 -- What preorder says of the path to a node.
-use Rattle.std.specs.Prelude.{Contains, Bool, true, false, IsTrue, nat_eq, nat_lt, filter_map, slice_get, AllPairs}
+use Rattle.std.specs.Prelude.{Contains, IsTrue, nat_eq, nat_lt, filter_map, slice_get, AllPairs}
 use Rattle.std.proofs.Common.{◌≡◌, ℕ, zero, suc, ◌+◌, ◌<◌, ◌≤◌, ◌⊎◌, inl, inr, List, [], ◌∷◌, length, Option, Some, None, refl, ap, sym, subst, ◌∙◌, arith, add-one, eqb-true}
 use Rattle.std.proofs.lemmas.Bool.{cases_lt}
 use Rattle.std.proofs.Math.Nat.{eq-or-lt_of_le}
@@ -7,7 +7,7 @@ use Rattle.std.proofs.lemmas.List.Kept.{AllPairs-from_increasing}
 use Rattle.std.proofs.lemmas.Option.{slice_get_within}
 use Rattle.lido_base.specs.Tree.{Tree, Item, Child, Leaf, IsTree, child_number, parent_of, place_of, items_of, item_at, children, ancestors, contains, continues, is_just}
 use Rattle.lido_base.proofs.EquationsLemmas.{contains-later}
-use Rattle.lido_base.proofs.TreeLemmas.{children_behind, parent_before, ancestors-root, ancestors-child, contains-cons, contains-test, test-contains, both, either, is_just-some}
+use Rattle.lido_base.proofs.TreeLemmas.{parent_before, ancestors-root, ancestors-child, contains-cons, contains-test, test-contains, both, either, is_just-some}
 use Rattle.tree_store.proofs.GrowthLemmas.{Contains-child}
 use Rattle.tree_store.proofs.ReadingLemmas.{child_of_parent, parent_there}
 use Rattle.tree_flattener.specs.Drafts.{Table, IsOnPath}

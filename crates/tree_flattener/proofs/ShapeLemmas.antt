@@ -1,17 +1,16 @@
 -- What a well formed grammar says of its shapes, lists and cells.
-use Rattle.std.specs.Prelude.{Contains, slice_get, true, false, not, Bool, IsTrue, map, filter, All, cond, ◌&&◌, ◌||◌, is_some, option_map, ◌^◌}
+use Rattle.std.specs.Prelude.{Contains, slice_get, true, false, not, Bool, IsTrue, map, filter, cond, ◌&&◌, ◌||◌, option_map, ◌^◌}
 use Rattle.std.specs.List.{list_any}
-use Rattle.std.proofs.Common.{◌≡◌, ℕ, zero, suc, ◌+◌, ◌<◌, ◌≤◌, ◌⊎◌, inl, inr, List, [], ◌∷◌, ◌++◌, length, Option, Some, None, refl, ap, sym, subst, ◌∙◌, arith, eqb-true, eq-eqb}
-use Rattle.std.proofs.lemmas.Option.{slice_get_within, slice_get-map}
+use Rattle.std.proofs.Common.{◌≡◌, ℕ, zero, suc, ◌+◌, ◌<◌, ◌⊎◌, inl, inr, List, [], ◌∷◌, ◌++◌, length, Some, refl, ap, sym, subst, ◌∙◌, arith, eqb-true, eq-eqb}
+use Rattle.std.proofs.lemmas.Option.{slice_get-map}
 use Rattle.std.proofs.lemmas.List.Elements.{All-contains}
 use Rattle.lido_base.specs.declared.ids.SymId.{SymId}
 use Rattle.flat_grammar.specs.declared.flat.FlatSymbol.{FlatSymbol}
 use Rattle.flat_grammar.specs.declared.flat.FlatRule.{FlatRule}
 use Rattle.flat_grammar.specs.declared.flat.Shape.{Shape}
-use Rattle.flat_grammar.specs.WellFormed.{is_same_symbol, different, is_nonterminal, is_nonterminal_symbol, IsRule, positions_from, positions_of, right_sides, right_side, cell_of, IsListShape, IsWellFormed}
+use Rattle.flat_grammar.specs.WellFormed.{is_same_symbol, different, is_nonterminal, IsRule, positions_from, right_side, cell_of, IsListShape, IsWellFormed}
 use Rattle.flat_grammar.specs.FlatTrees.{is_cell}
 use Rattle.flat_grammar.proofs.Lists.{contains-cons, contains-first, contains-later, slice_get-contains, contains-slice_get}
-use Rattle.tree_flattener.specs.Forms.{IsElementRule, IsEndRule}
 use Rattle.tree_flattener.proofs.GrowLemmas.{some_same}
 
 pub same_symbol : (s q : SymId) → is_same_symbol s q ≡ true → s ≡ q

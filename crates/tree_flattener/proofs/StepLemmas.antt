@@ -1,29 +1,27 @@
 -- What is added for a child, and where a node is closed.
 use Rattle.std.specs.Prelude.{Contains, slice_get, true, false, Bool, take, filter_map, IsTrue}
-use Rattle.std.proofs.Common.{◌≡◌, ℕ, zero, suc, ◌+◌, ◌*◌, ◌<◌, ◌≤◌, ◌⊎◌, inl, inr, List, [], ◌∷◌, ◌++◌, length, Option, Some, None, refl, ap, sym, subst, ◌∙◌, arith, length-append}
+use Rattle.std.proofs.Common.{◌≡◌, ℕ, zero, suc, ◌+◌, ◌*◌, ◌<◌, ◌≤◌, ◌⊎◌, inl, inr, List, [], ◌∷◌, ◌++◌, length, Some, None, refl, ap, sym, subst, ◌∙◌, arith, length-append}
 use Rattle.std.proofs.lemmas.Bool.{cases_lt}
 use Rattle.std.proofs.lemmas.List.Elements.{filter_map-append}
 use Rattle.std.proofs.lemmas.Option.{slice_get_within}
-use Rattle.std.proofs.Math.Nat.{eq-or-lt_of_le}
 use Rattle.lido_base.specs.declared.ids.SymId.{SymId}
 use Rattle.lido_base.specs.declared.ids.RuleId.{RuleId}
 use Rattle.lido_base.specs.declared.value.Value.{Value}
-use Rattle.lido_base.specs.Tree.{Tree, Item, Child, Leaf, IsTree, parent_of, place_of, items_of, item_at, rule_at, child_number, children, with_node, places, ancestors}
+use Rattle.lido_base.specs.Tree.{Item, Child, IsTree, parent_of, place_of, items_of, item_at, rule_at, child_number, with_node, places, ancestors}
 use Rattle.lido_base.proofs.TreeLemmas.{parent_before, ancestors-root}
 use Rattle.flat_grammar.specs.declared.flat.FlatSymbol.{FlatSymbol}
 use Rattle.flat_grammar.specs.declared.flat.FlatRule.{FlatRule}
 use Rattle.flat_grammar.specs.declared.flat.Shape.{Shape}
-use Rattle.flat_grammar.specs.Rules.{HasRule}
 use Rattle.flat_grammar.specs.WellFormed.{cell_of}
 use Rattle.flat_grammar.specs.FlatTrees.{StandsFor, AreItems, AreCells, IsCellNode, is_cell}
 use Rattle.tree_store.specs.Growth.{IsOpen}
 use Rattle.tree_store.proofs.GrowthLemmas.{get_before, get_last, open_inside}
 use Rattle.tree_flattener.specs.Forms.{IsElementRule, IsEndRule}
-use Rattle.tree_flattener.specs.Drafts.{Table, IsOnPath, Grows, Fills, Suits, IsCellOf, IsChain, IsUpToAs, IsWholeAs, IsUpTo, IsWhole, IsNumbered, IsDraft, IsAttached, IsClosed}
+use Rattle.tree_flattener.specs.Drafts.{Table, IsOnPath, Grows, Fills, Suits, IsCellOf, IsChain, IsUpToAs, IsWholeAs, IsUpTo, IsWhole, IsDraft, IsAttached, IsClosed}
 use Rattle.tree_flattener.proofs.PathLemmas.{with_parent_inside, on_path_before, child_parent, above_before}
-use Rattle.tree_flattener.proofs.GrowLemmas.{Adds, adds, adds_grows, grows_on, fills_grow, items_grow, some_same}
+use Rattle.tree_flattener.proofs.GrowLemmas.{Adds, adds_grows, grows_on, fills_grow, items_grow, some_same}
 use Rattle.tree_flattener.proofs.ChainLemmas.{chain_last, chain_open, chain_more, chain_end}
-use Rattle.tree_flattener.proofs.ItemLemmas.{there, take_next, take_all, take_short, items_append, items_length, rest_terminals, rest_empty, next_behind, next_item, next_element}
+use Rattle.tree_flattener.proofs.ItemLemmas.{there, take_next, take_all, take_short, items_append, items_length, rest_empty, next_item, next_element}
 use Rattle.tree_flattener.proofs.DraftLemmas.{get_new}
 
 not_both : (b : Bool) → b ≡ false → IsTrue b → ⊥

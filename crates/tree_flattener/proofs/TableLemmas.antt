@@ -1,6 +1,6 @@
 -- How the tables of rules are filled.
-use Rattle.std.specs.Prelude.{Contains, slice_get, slice_set, Bool, true, false, nat_eq}
-use Rattle.std.proofs.Common.{◌≡◌, ℕ, zero, suc, ◌+◌, ◌<◌, ◌≤◌, ◌⊎◌, inl, inr, List, [], ◌∷◌, length, get_or, Option, Some, None, refl, ap, sym, subst, ◌∙◌, arith}
+use Rattle.std.specs.Prelude.{slice_get, slice_set, true, false, nat_eq}
+use Rattle.std.proofs.Common.{◌≡◌, ℕ, zero, suc, ◌+◌, ◌<◌, ◌≤◌, ◌⊎◌, inl, inr, List, [], ◌∷◌, length, get_or, Option, Some, refl, ap, sym, subst, ◌∙◌, arith}
 use Rattle.std.proofs.lemmas.Bool.{cases_lt}
 use Rattle.std.proofs.lemmas.Bool.Decides.{eqb_tells}
 use Rattle.std.proofs.lemmas.Option.{slice_get_within, slice_get_read}
@@ -11,7 +11,7 @@ use Rattle.flat_grammar.specs.declared.flat.FlatRule.{FlatRule}
 use Rattle.flat_grammar.specs.declared.flat.Shape.{Shape}
 use Rattle.flat_grammar.specs.WellFormed.{IsWellFormed}
 use Rattle.tree_flattener.specs.declared.forms.Form.{Form}
-use Rattle.tree_flattener.specs.Forms.{IsElementOf, IsElementRule, AreElementRules, IsForm, AreForms}
+use Rattle.tree_flattener.specs.Forms.{IsElementOf, IsElementRule, IsForm, AreForms}
 use Rattle.flat_grammar.proofs.Lists.{slice_get-contains}
 use Rattle.tree_flattener.proofs.GrowLemmas.{some_same}
 use Rattle.tree_flattener.proofs.ShapeLemmas.{shape_rules_rise}

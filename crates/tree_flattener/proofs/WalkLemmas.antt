@@ -1,13 +1,12 @@
 -- The steps of the walk, for a draft with a spot.
-use Rattle.std.specs.Prelude.{Contains, slice_get, true, false, Bool, take, All}
-use Rattle.std.proofs.Common.{◌≡◌, ℕ, zero, suc, ◌+◌, ◌*◌, ◌<◌, ◌≤◌, ◌⊎◌, inl, inr, List, [], ◌∷◌, ◌++◌, length, Option, Some, None, refl, ap, sym, subst, ◌∙◌, arith, length-append, add-one}
+use Rattle.std.specs.Prelude.{Contains, slice_get, true, false, take, All}
+use Rattle.std.proofs.Common.{◌≡◌, ℕ, zero, suc, ◌+◌, ◌<◌, ◌≤◌, List, [], ◌∷◌, ◌++◌, length, Option, Some, None, refl, ap, sym, subst, ◌∙◌, arith, length-append, add-one}
 use Rattle.std.proofs.lemmas.Option.{slice_get_within, get_or_from_slice_get, slice_get-get_or}
 use Rattle.std.proofs.Common.{get_or, ◌-◌}
 use Rattle.lido_base.specs.declared.ids.RuleId.{RuleId}
 use Rattle.lido_base.specs.declared.ids.SymId.{SymId}
 use Rattle.lido_base.specs.declared.value.Value.{Value}
-use Rattle.lido_base.specs.Tree.{Item, Child, Leaf, IsTree, parent_of, place_of, items_of, item_at, rule_at, with_node, places, ancestors}
-use Rattle.lido_base.proofs.TreeLemmas.{children_behind}
+use Rattle.lido_base.specs.Tree.{Item, Child, IsTree, parent_of, place_of, items_of, item_at, rule_at, with_node, places, ancestors}
 use Rattle.flat_grammar.specs.declared.flat.FlatSymbol.{FlatSymbol}
 use Rattle.flat_grammar.specs.declared.flat.FlatRule.{FlatRule}
 use Rattle.flat_grammar.specs.declared.flat.Shape.{Shape}
@@ -17,13 +16,13 @@ use Rattle.flat_grammar.specs.FlatTrees.{AreItems, IsFlatTree}
 use Rattle.tree_store.specs.Growth.{IsOpen, IsTerminal}
 use Rattle.tree_flattener.specs.declared.draft.Draft.{Draft}
 use Rattle.tree_flattener.specs.declared.draft.Spot.{Spot}
-use Rattle.tree_flattener.specs.Forms.{IsElementRule, IsEndRule, AreElementRules}
+use Rattle.tree_flattener.specs.Forms.{IsEndRule, AreElementRules}
 use Rattle.tree_flattener.specs.Drafts.{Table, IsOnPath, Fills, Suits, IsNumbered, IsDraft, IsAttached, IsClosed, IsWalk, HasForm, most_nodes}
 use Rattle.tree_flattener.proofs.PathLemmas.{with_parent_inside, own_item, place_inside, preorder_parent, no_more, child_parent}
 use Rattle.tree_flattener.proofs.GrowLemmas.{Adds, adds, some_same}
 use Rattle.tree_flattener.proofs.ItemLemmas.{there, take_all, take_short, items_length, rest_terminals, terminals_between, next_behind}
 use Rattle.tree_flattener.proofs.DraftLemmas.{attached_draft, closed_numbered, closed_draft, is_flat_tree}
-use Rattle.tree_flattener.proofs.StepLemmas.{low_m, tail_inside, tail_of_list, element_attached, list_closed, few_at_tail, child_attached, plain_closed, first_draft}
+use Rattle.tree_flattener.proofs.StepLemmas.{low_m, tail_of_list, element_attached, list_closed, few_at_tail, child_attached, plain_closed, first_draft}
 use Rattle.tree_store.proofs.OpenLemmas.{open_added}
 
 module _ (symbols : List FlatSymbol) (rules : List FlatRule) (shapes : List Shape) (W : Table) (s : Draft) (at : Spot) (walk : IsWalk symbols rules shapes W s at) where

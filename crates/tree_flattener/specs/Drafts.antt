@@ -2,7 +2,7 @@
 use Rattle.std.specs.Prelude.{◌≡◌, ℕ, suc, ◌+◌, ◌*◌, ◌<◌, ◌≤◌, ◌⊎◌, Bool, true, false, List, [], ◌∷◌, ◌++◌, length, take, filter_map, Some, slice_get, Contains, IsTrue}
 use Rattle.lido_base.specs.declared.ids.SymId.{SymId}
 use Rattle.lido_base.specs.declared.value.Value.{Value}
-use Rattle.lido_base.specs.Tree.{Tree, Item, Child, Leaf, IsTree, rule_at, parent_of, place_of, items_of, item_at, children, child_number, ancestors}
+use Rattle.lido_base.specs.Tree.{Tree, Item, Child, IsTree, rule_at, parent_of, place_of, items_of, item_at, children, child_number, ancestors}
 use Rattle.flat_grammar.specs.declared.flat.FlatSymbol.{FlatSymbol}
 use Rattle.flat_grammar.specs.declared.flat.FlatRule.{FlatRule}
 use Rattle.flat_grammar.specs.declared.flat.Shape.{Shape}

@@ -1,5 +1,5 @@
 -- What stands for a written node in the flat tree, by the number of its rule.
-use Rattle.std.specs.Prelude.{◌≡◌, ℕ, List, [], ◌∷◌, length, Option, Some, None, slice_get, true, false, Contains}
+use Rattle.std.specs.Prelude.{◌≡◌, ℕ, List, [], ◌∷◌, length, Option, Some, slice_get, true, false, Contains}
 use Rattle.lido_base.specs.declared.ids.SymId.{SymId}
 use Rattle.lido_base.specs.declared.ids.RuleId.{RuleId}
 use Rattle.flat_grammar.specs.declared.flat.FlatSymbol.{FlatSymbol}

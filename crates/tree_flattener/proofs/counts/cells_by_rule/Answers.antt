@@ -1,4 +1,4 @@
-use Rattle.std.proofs.Common.{arith, sym, ap, ◌∙◌, map, sum_by, length, take, ◌+◌, ◌++◌, ◌∷◌, []}
+use Rattle.std.proofs.Common.{sum_by}
 use Rattle.std.specs.Prelude.{min}
 use Rattle.flat_grammar.specs.Fitting.{cells}
 use Rattle.flat_grammar.specs.declared.flat.FlatComp.{FlatComp}

@@ -1,4 +1,4 @@
-use Rattle.std.proofs.Common.{arith, sym, ap, ◌∙◌, subst, sum_by, length, List, ℕ, ◌≤◌, get_or, inr, inl, refl}
+use Rattle.std.proofs.Common.{arith, sym, ap, ◌∙◌, subst, sum_by, length, List, ℕ, ◌≤◌, get_or, inr}
 use Rattle.lido_base.specs.declared.value.Value.{Value}
 use Rattle.lido_base.specs.Tree.{Node}
 use Rattle.flat_grammar.specs.Rules.{attrs_of}

@@ -1,4 +1,4 @@
-use Rattle.std.proofs.Common.{◌∙◌, ap, sym, suc, ◌+◌, sum_by, arith, ◌≡◌, refl, length}
+use Rattle.std.proofs.Common.{◌∙◌, ap, sym, suc, sum_by, length}
 use Rattle.flat_grammar.specs.Fitting.{cells, own_cells}
 use Rattle.flat_grammar.proofs.ExpressionsLemmas.{cells-Apply, cells-If, cells-Order}
 use Rattle.flat_grammar.specs.Expressions.{weight}

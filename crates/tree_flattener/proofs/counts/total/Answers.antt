@@ -1,4 +1,4 @@
-use Rattle.std.proofs.Common.{arith, sym, ap, ◌∙◌, ◌+◌}
+use Rattle.std.proofs.Common.{arith}
 use Rattle.tree_flattener.proofs.CountLemmas.{sum_next}
 use Rattle.tree_flattener.proofs.counts.total.Goals as goal
 

@@ -1,4 +1,4 @@
-use Rattle.std.proofs.Common.{arith, sym, length}
+use Rattle.std.proofs.Common.{arith, sym}
 use Rattle.tree_flattener.proofs.WalkLemmas.{next_around, next_all_met}
 use Rattle.tree_flattener.proofs.flatten_tree.attach_all.Goals as goal
 

@@ -1,4 +1,3 @@
-use Rattle.std.proofs.Common.{arith}
 use Rattle.tree_flattener.proofs.CountLemmas.{refused_for}
 use Rattle.tree_flattener.proofs.FitLemmas.{suits}
 use Rattle.tree_flattener.proofs.flatten_tree.flatten.Goals as goal

@@ -1,4 +1,4 @@
-use Rattle.std.proofs.Common.{arith, sym, ap, ◌∙◌, length, ◌≡◌, []}
+use Rattle.std.proofs.Common.{arith, sym, ap, ◌∙◌, length, []}
 use Rattle.std.proofs.lemmas.Option.{slice_get_within}
 use Rattle.lido_base.specs.declared.ids.SymId.{SymId}
 use Rattle.tree_flattener.proofs.TableLemmas.{item_at, symbol_same, none_in, end_step}

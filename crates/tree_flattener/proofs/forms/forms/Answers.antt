@@ -1,4 +1,4 @@
-use Rattle.std.proofs.Common.{arith, sym, ap, ◌∙◌, length, ◌<◌}
+use Rattle.std.proofs.Common.{arith, ap, ◌∙◌, length, ◌<◌}
 use Rattle.std.proofs.Math.ListN.{length-set}
 use Rattle.std.proofs.lemmas.Option.{slice_get_within}
 use Rattle.flat_grammar.proofs.Lists.{contains-slice_get}

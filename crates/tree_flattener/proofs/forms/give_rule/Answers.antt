@@ -1,4 +1,4 @@
-use Rattle.std.proofs.Common.{sym, ap, ◌∙◌, subst, Some}
+use Rattle.std.proofs.Common.{sym, ap, ◌∙◌, Some}
 use Rattle.std.specs.Prelude.{slice_get, slice_set}
 use Rattle.lido_base.specs.declared.ids.SymId.{SymId}
 use Rattle.tree_flattener.proofs.GrowLemmas.{some_same}

@@ -1,8 +1,8 @@
-use Rattle.std.proofs.Common.{[], refl, sym, subst, ap, ◌∙◌, arith, ◌≡◌, Some, add-one, length, ◌≤◌}
+use Rattle.std.proofs.Common.{[], sym, ap, ◌∙◌, arith, ◌≡◌, Some, add-one}
 use Rattle.std.specs.Prelude.{slice_get}
 use Rattle.lido_base.specs.Tree.{items_of, item_at, Leaf}
 use Rattle.tree_store.proofs.GrowthLemmas.{open_inside}
-use Rattle.tree_flattener.proofs.GrowLemmas.{fills_more, fills_none}
+use Rattle.tree_flattener.proofs.GrowLemmas.{fills_more}
 use Rattle.tree_flattener.proofs.ItemLemmas.{leaf_more, places_more}
 use Rattle.tree_flattener.proofs.terminals.add_terminals.Goals as goal
 

@@ -1,4 +1,4 @@
-use Rattle.std.proofs.Common.{subst, sym}
+use Rattle.std.proofs.Common.{subst}
 use Rattle.tree_flattener.specs.Forms.{IsForm}
 use Rattle.tree_flattener.proofs.WalkLemmas.{inside}
 use Rattle.tree_flattener.proofs.walk.attach.Goals as goal

@@ -1,4 +1,4 @@
-use Rattle.std.proofs.Common.{arith, length, ◌-◌, ◌<◌, subst, sym, ap}
+use Rattle.std.proofs.Common.{arith, length, ◌-◌}
 use Rattle.lido_base.specs.Tree.{items_of}
 use Rattle.tree_flattener.proofs.WalkLemmas.{few_in_plain, inside, next_inside, place_next, place_forward, child_added, few_items}
 use Rattle.tree_flattener.proofs.StepLemmas.{items_of_tail}

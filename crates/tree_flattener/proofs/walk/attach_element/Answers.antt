@@ -1,4 +1,4 @@
-use Rattle.std.proofs.Common.{arith, sym, subst, ap, ◌∙◌, length, ◌≡◌, Some, None}
+use Rattle.std.proofs.Common.{arith, sym, subst, ap, length}
 use Rattle.tree_store.specs.Growth.{IsOpen}
 use Rattle.lido_base.specs.Tree.{places}
 use Rattle.tree_flattener.proofs.WalkLemmas.{few_in_cell, few_nodes, next_inside, element_is, element_added, cell_added}

@@ -1,6 +1,4 @@
-use Rattle.std.proofs.Common.{refl, subst, sym, ap, arith, ◌∙◌, length, inl, inr, ◌≡◌, ◌⊎◌, ◌<◌}
-use Rattle.std.specs.Prelude.{Contains}
-use Rattle.lido_base.specs.Tree.{ancestors}
+use Rattle.std.proofs.Common.{refl, ap, arith, ◌∙◌, length, inl}
 use Rattle.lido_base.proofs.TreeLemmas.{parent_before}
 use Rattle.tree_flattener.proofs.ClimbLemmas.{further_up, still_around}
 use Rattle.tree_flattener.proofs.PathLemmas.{above_before, path_up}

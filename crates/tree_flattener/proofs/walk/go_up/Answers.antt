@@ -1,4 +1,4 @@
-use Rattle.std.proofs.Common.{refl, subst, sym, ap, arith, length}
+use Rattle.std.proofs.Common.{subst, sym, ap, arith, length}
 use Rattle.tree_flattener.specs.Drafts.{IsNumbered}
 use Rattle.tree_flattener.proofs.WalkLemmas.{met, numbered_closed, walk_up}
 use Rattle.tree_flattener.proofs.walk.go_up.Goals as goal

@@ -1,0 +1,11 @@
+use Rattle.std.proofs.Common.{◌≡◌, ◌∙◌, ℕ, List, [], ap, refl}
+use Rattle.lido_reader.specs.Added.{functions, interned}
+use Rattle.lido_top.proofs.parts.first_texts.Goals as goal
+
+-- no name stands among the functions' twice
+all_new : interned [] functions ≡ functions
+unfolding interned
+all_new = refl
+
+pub returns-in-Ok-clause-table : goal.returns-in-Ok-clause-table
+returns-in-Ok-clause-table c = c.in-Ok.ensures.table ∙ ap (λ (texts : List (List ℕ)). interned texts functions) c.keyed_by-strings.ensures ∙ all_new

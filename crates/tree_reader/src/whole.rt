@@ -1,0 +1,68 @@
+//! The whole way from the text of a tree to its trees.
+ghost use Rattle.std.specs.Prelude.{◌≡◌, ◌≤◌, Ok, length, IfOk, IfErr};
+ghost use Rattle.lido_base.specs.Phases.{Gives, IsThe};
+ghost use Rattle.lido_base.specs.Plain.{plain_tree};
+ghost use Rattle.lido_lexer.specs.Lexing.{Gains};
+ghost use Rattle.flat_grammar.specs.Fitting.{IsFitting, IsWithinLimits};
+ghost use Rattle.flat_grammar.specs.FlatTrees.{IsFlatTree};
+ghost use Rattle.tree_store.specs.declared.fault.TreeFault.{TreeFault};
+ghost use Rattle.tree_reader.specs.WrittenTrees.{most_nodes};
+ghost use Rattle.tree_reader.specs.Whole.{WrittenOf, IsRefusedText};
+
+use crate::scanner::scan;
+use crate::writer::write_tree;
+use flat_grammar::Flat;
+use lido_base::Strings;
+use std::alloc::Global;
+use tree_flattener::flatten;
+use tree_store::{Tree, TreeFault, Trees};
+
+/// The written tree of a text.
+#[tactic(auto, unfolding(crate::specs::Whole::WrittenOf, crate::specs::Scanning::Scanning))]
+fn written_of(
+    alloc: Global,
+    text: &[u8],
+    flat: &Flat,
+    strings: &mut Strings,
+) -> Result<Tree, TreeFault>
+    requires { length text.now ≤ 8388608 }
+    ensures gives { Gives (plain_tree strings.new) (WrittenOf flat.now.symbols flat.now.rules flat.now.shapes flat.now.root strings.old text.now) TreeFault.Memory result }
+    ensures fits { IfOk result (λ tree. IsFitting flat.now.symbols flat.now.rules flat.now.shapes flat.now.root (plain_tree strings.new tree)) }
+    ensures few_nodes { IfOk result (λ tree. length tree ≤ most_nodes) }
+    ensures kept { Gains strings.old strings.new }
+{
+    let parts = match scan(alloc, text) {
+        Ok(parts) => parts,
+        Err(e) => return Err(e),
+    };
+    match write_tree(alloc, flat, strings, parts.as_slice()) {
+        Ok(tree) => Ok(tree),
+        Err(e) => Err(e),
+    }
+}
+
+/// Reads a bracketed tree over a flat grammar: the written tree, its flat tree, and the written node of each flat node.
+///
+/// The text has at most 8,388,608 bytes. `TreeSyntax` stands at the first byte with which the text begins no tree, or at its length;
+/// else the first fault from the left is answered: `UnknownRule` at a name, `WrongRoot` at the name of the first node, `WrongChild` at a child or
+/// at the bracket where one is missing, `TooMany` nodes (above 1,048,576). Then come `TooMany` instances (above 4,194,304) and text cells (above
+/// 16,777,216) of the flat tree. `Memory` is want of memory. Texts that were in `strings` keep their ids; those of the tree's strings are added.
+pub fn read_tree(
+    alloc: Global,
+    text: &[u8],
+    flat: &Flat,
+    strings: &mut Strings,
+) -> Result<Trees, TreeFault>
+    requires { length text.now ≤ 8388608 }
+    ensures written { IfOk result (λ trees. IsThe (WrittenOf flat.now.symbols flat.now.rules flat.now.shapes flat.now.root strings.old text.now) (Ok (plain_tree strings.new trees.written))) }
+    ensures fits { IfOk result (λ trees. IsFitting flat.now.symbols flat.now.rules flat.now.shapes flat.now.root (plain_tree strings.new trees.written)) }
+    ensures flat { IfOk result (λ trees. IsFlatTree flat.now.symbols flat.now.rules flat.now.shapes trees.written trees.flat trees.node_of) }
+    ensures within { IfOk result (λ trees. IsWithinLimits flat.now.symbols flat.now.rules trees.flat) }
+    ensures refused { IfErr result (λ e. IsRefusedText flat.now.symbols flat.now.rules flat.now.shapes flat.now.root strings.old text.now strings.new e) }
+    ensures kept { Gains strings.old strings.new }
+{
+    match written_of(alloc, text, flat, strings) {
+        Ok(written) => flatten(alloc, flat, written),
+        Err(e) => Err(e),
+    }
+}

@@ -6,6 +6,11 @@ pub mod FitLemmas
 pub mod FormLemmas
 pub mod GrowLemmas
 pub mod ItemLemmas
+pub mod OnePathLemmas
+pub mod OnePlainLemmas
+pub mod OneRoleLemmas
+pub mod OneRuleLemmas
+pub mod OneTreeLemmas
 pub mod PathLemmas
 pub mod ShapeLemmas
 pub mod StepLemmas

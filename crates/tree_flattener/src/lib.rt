@@ -5,6 +5,7 @@ mod counts;
 mod draft;
 mod flatten_tree;
 mod forms;
+pub mod laws;
 mod terminals;
 mod walk;
 

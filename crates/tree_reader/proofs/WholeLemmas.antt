@@ -1,6 +1,6 @@
 -- The phases from the text of a tree to its written tree, one behind the other.
 use Rattle.std.specs.Prelude.{ℕ, List, Result}
-use Rattle.std.proofs.Common.{◌≡◌, ◌⊎◌, inl, inr, Ok, Err, sym, subst}
+use Rattle.std.proofs.Common.{◌≡◌, ◌⊎◌, inl, inr, Ok, Err, subst}
 use Rattle.lido_base.specs.Phases.{IsThe}
 use Rattle.lido_base.specs.Plain.{Plain}
 use Rattle.lido_base.specs.Tree.{Tree}

@@ -1,13 +1,13 @@
 //! The whole way from the text of a tree to its trees.
-ghost use Rattle.std.specs.Prelude.{◌≡◌, ◌≤◌, Ok, length, IfOk, IfErr};
-ghost use Rattle.lido_base.specs.Phases.{Gives, IsThe};
+ghost use Rattle.std.specs.Prelude.{◌≤◌, length, IfOk};
+ghost use Rattle.lido_base.specs.Phases.{Gives};
 ghost use Rattle.lido_base.specs.Plain.{plain_tree};
 ghost use Rattle.lido_lexer.specs.Lexing.{Gains};
 ghost use Rattle.flat_grammar.specs.Fitting.{IsFitting, IsWithinLimits};
 ghost use Rattle.flat_grammar.specs.FlatTrees.{IsFlatTree};
 ghost use Rattle.tree_store.specs.declared.fault.TreeFault.{TreeFault};
 ghost use Rattle.tree_reader.specs.WrittenTrees.{most_nodes};
-ghost use Rattle.tree_reader.specs.Whole.{WrittenOf, IsRefusedText};
+ghost use Rattle.tree_reader.specs.Whole.{WrittenOf, TreesOf};
 
 use crate::scanner::scan;
 use crate::writer::write_tree;
@@ -54,11 +54,11 @@ pub fn read_tree(
     strings: &mut Strings,
 ) -> Result<Trees, TreeFault>
     requires { length text.now ≤ 8388608 }
-    ensures written { IfOk result (λ trees. IsThe (WrittenOf flat.now.symbols flat.now.rules flat.now.shapes flat.now.root strings.old text.now) (Ok (plain_tree strings.new trees.written))) }
+    ensures gives { Gives (λ trees. (plain_tree strings.new trees.written, plain_tree strings.new trees.flat, trees.node_of))
+        (TreesOf flat.now.symbols flat.now.rules flat.now.shapes flat.now.root strings.old text.now) TreeFault.Memory result }
     ensures fits { IfOk result (λ trees. IsFitting flat.now.symbols flat.now.rules flat.now.shapes flat.now.root (plain_tree strings.new trees.written)) }
     ensures flat { IfOk result (λ trees. IsFlatTree flat.now.symbols flat.now.rules flat.now.shapes trees.written trees.flat trees.node_of) }
     ensures within { IfOk result (λ trees. IsWithinLimits flat.now.symbols flat.now.rules trees.flat) }
-    ensures refused { IfErr result (λ e. IsRefusedText flat.now.symbols flat.now.rules flat.now.shapes flat.now.root strings.old text.now strings.new e) }
     ensures kept { Gains strings.old strings.new }
 {
     match written_of(alloc, text, flat, strings) {

@@ -52,7 +52,7 @@ fn copies_at_the_limits(rt: HostRuntime) -> Result<(), Fail> {
         attributes: 128,
         rules: 1_024,
         children: 7,
-        bottom_up: true,
+        bottom_up: false,
     };
     let start = Instant::now(&rt)?;
     assert!(rt; is_planned(alloc, size, Flow::Straight)?);
@@ -68,7 +68,7 @@ fn turns_at_the_limits(rt: HostRuntime) -> Result<(), Fail> {
         attributes: 128,
         rules: 1_024,
         children: 7,
-        bottom_up: true,
+        bottom_up: false,
     };
     let start = Instant::now(&rt)?;
     assert!(rt; is_planned(alloc, size, Flow::Turns)?);

@@ -133,7 +133,7 @@ fn specs(rt: HostRuntime) -> Result<(), Fail> {
             exit: *exit,
             text: "",
             line,
-            taken: text.len() as u32,
+            taken: u32::try_from(text.len()).unwrap_or(0),
             calls: true,
         };
         call(&rt, rt.alloc(), &case)?;

@@ -1,5 +1,7 @@
 -- How the goals of a rule stand: what the queue keeps as more becomes at hand.
-use Rattle.std.specs.Prelude.{All, Contains, slice_get, slice_index, slice_set, replicate, take, IsBitSet, ◌↔◌, MatchOption, OnOk}
+use Rattle.std.specs.Ordering.{nat_cmp}
+use Rattle.std.specs.BTreeSet.{contains}
+use Rattle.std.specs.Prelude.{Contains, IsTrue, slice_get, slice_index, slice_set, replicate, take, IsBitSet, ◌↔◌, MatchOption, OnOk}
 use Rattle.std.proofs.Common.{◌≡◌, ℕ, ◌<◌, ◌≤◌, ◌+◌, ◌⊎◌, inl, inr, List, [], ◌∷◌, ◌++◌, length, get_or, Option, Some, None, Result, Ok, Err, arith, ap, sym, subst, ◌∙◌}
 use Rattle.std.proofs.lemmas.Bool.{cases_lt, cases_eq}
 use Rattle.std.proofs.lemmas.Option.{slice_get_cases, slice_get_within, slice_get-get_or, get_or_from_slice_get}
@@ -13,7 +15,7 @@ use Rattle.visit_sequences.specs.declared.goals.Goal.{Goal}
 use Rattle.visit_sequences.specs.declared.progress.Progress.{Progress}
 use Rattle.visit_sequences.specs.declared.queue.Waiting.{Waiting}
 use Rattle.visit_sequences.specs.declared.queue.Queue.{Queue}
-use Rattle.visit_sequences.specs.Steps.{HasBit, IsOpen, IsFree, Waits, Keeps, AreFree, StandsIn, Sorts, Changes, IsLeft, AreSeen, HasSeen, HasLeft, AreEvaluated}
+use Rattle.visit_sequences.specs.Steps.{HasBit, IsLeastOpen, IsOpen, IsFree, Waits, Keeps, AreFree, StandsIn, IsListed, AreListed, Sorts, Changes, IsLeft, AreSeen, HasSeen, HasLeft, AreEvaluated}
 use Rattle.visit_sequences.proofs.BitsLemmas.{taken-cases}
 use Rattle.visit_sequences.proofs.ClosedWalks.{all-from_each}
 
@@ -75,12 +77,12 @@ pub woken-free : (p q : Progress) (goals : List Goal) (old new : Queue) (k : ℕ
 woken-free p q goals old new k sorts changes same o bit =
     let (g, m, e, f) = sorts.free o (subst (λ s. HasBit s.items o) same bit) in (g, m, e, (λ u need. changes.stays u (f u need)))
 
+empty-index : (n k : ℕ) → slice_index (replicate n 0) k ≡ 0
+empty-index n k = elim (cases_lt k n) [ inl l ↦ get_or-replicate n k 0 0 l | inr g ↦ get_or_past (replicate n 0) k 0 (let e = length-replicate {A = ℕ} n 0 in omega (arith, e, g)) ]
+
 -- nothing is free in empty sets
 pub none-free : (p : Progress) (goals : List Goal) (q : Queue) (n : ℕ) → q.free.items ≡ replicate n 0 → AreFree p goals q
-none-free p goals q n e o bit = absurd (empty-set o.attr.0 (subst (λ b. IsBitSet b o.attr.0) none (subst (λ (l : List ℕ). HasBit l o) e bit)))
-  where
-    none : slice_index (replicate n 0) o.occ ≡ 0
-    none = elim (cases_lt o.occ n) [ inl l ↦ get_or-replicate n o.occ 0 0 l | inr g ↦ get_or_past (replicate n 0) o.occ 0 (let e = length-replicate {A = ℕ} n 0 in omega (arith, e, g)) ]
+none-free p goals q n e o bit = absurd (empty-set o.attr.0 (subst (λ b. IsBitSet b o.attr.0) (empty-index n o.occ) (subst (λ (l : List ℕ). HasBit l o) e bit)))
 
 -- a goal that is open is free, and the other way round
 open-free : (p : Progress) (g : Goal) → IsOpen p g → IsFree p g
@@ -100,7 +102,7 @@ open-left p goals q sorts g m opens = let (i, at) = slice_get-contains goals g m
 -- the least that is free and not evaluated is the least that is open
 pub least-open : (p : Progress) (goals : List Goal) (q : Queue) → Sorts p goals q → (found : Option Occ)
     → MatchOption found ((o : Occ) → IsLeft p q o → ⊥) (λ o. IsLeft p q o × ((x : Occ) → IsLeft p q x → IsAtMost o x))
-    → MatchOption found (All (λ g. IsOpen p g → ⊥) goals) (λ o. ((g : Goal) × Contains goals g × IsOpen p g × (g.goal ≡ o)) × All (λ g. IsOpen p g → IsAtMost o g.goal) goals)
+    → IsLeastOpen p goals found
 least-open p goals q sorts None none = all-from_each (λ g. IsOpen p g → ⊥) goals (λ g m opens. none g.goal (open-left p goals q sorts g m opens))
 least-open p goals q sorts (Some o) (left, least) =
     let (g, m, e, free) = sorts.free o left.0 in (
@@ -130,28 +132,27 @@ looked-next p goals old new woken n d inside keeps before here i g at m = elim (
 ]
 
 -- all were looked at
-pub all-stand : (p : Progress) (goals : List Goal) (q : Queue) (woken : List ℕ) (n : ℕ) → length woken ≤ n → AreFree p goals q → HasSeen p goals q → ((i : ℕ) (g : Goal) → slice_get goals i ≡ Some g → StandsIn p q i g ⊎ Contains woken i)
+pub all-stand : (p : Progress) (goals : List Goal) (q : Queue) (woken : List ℕ) (n : ℕ) → length woken ≤ n → AreFree p goals q → HasSeen p goals q → AreListed p q → ((i : ℕ) (g : Goal) → slice_get goals i ≡ Some g → StandsIn p q i g ⊎ Contains woken i)
     → ((i : ℕ) (g : Goal) → slice_get goals i ≡ Some g → Contains (take n woken) i → StandsIn p q i g) → Sorts p goals q
-all-stand p goals q woken n over free seen others looked = record {
+all-stand p goals q woken n over free seen listed others looked = record {
   free = free;
   seen = seen;
+  listed = listed;
   stands = λ i g at. elim (others i g at) [ inl s ↦ s | inr m ↦ looked i g at (subst (λ l. Contains l i) (sym (take_all n woken over)) m) ];
 }
 
-pub on_ok-three : {A E : Type 0} (result : Result A E) (P Q R S : Type 0) → (P → Q → R → S) → OnOk result P → OnOk result Q → OnOk result R → OnOk result S
-on_ok-three (Ok a) P Q R S f p q r = f p q r
-on_ok-three (Err e) P Q R S f p q r = p
+pub on_ok-two : {A E : Type 0} (result : Result A E) (P Q R : Type 0) → (P → Q → R) → OnOk result P → OnOk result Q → OnOk result R
+on_ok-two (Ok a) P Q R f p q = f p q
+on_ok-two (Err e) P Q R f p q = p
 
-pub keeps-more : (old new : Queue) (o : Occ) → new.waiting ≡ old.waiting → length new.free.items ≡ length old.free.items → ((u : Occ) → HasBit new.free.items u ↔ (HasBit old.free.items u ⊎ (u ≡ o))) → Keeps old new
-keeps-more old new o same each step = record {
-  each = each;
+pub keeps-more : (old new : Queue) (o : Occ) → new.waiting ≡ old.waiting → ((u : Occ) → HasBit new.free.items u ↔ (HasBit old.free.items u ⊎ (u ≡ o))) → Keeps old new
+keeps-more old new o same step = record {
   free = λ u b. (step u).1 (inl b);
   waits = λ k i m. subst (λ v. WaitsIn v.items k i) (sym same) m;
 }
 
 pub keeps-same : (old mid new : Queue) → (mid.free ≡ old.free) × (mid.waiting ≡ old.waiting) → Keeps mid new → Keeps old new
 keeps-same old mid new (free, waiting) keeps = record {
-  each = keeps.each ∙ ap (λ f. length f.items) free;
   free = λ u b. keeps.free u (subst (λ f. HasBit f.items u) (sym free) b);
   waits = λ k i m. keeps.waits k i (subst (λ v. WaitsIn v.items k i) (sym waiting) m);
 }
@@ -194,3 +195,31 @@ has-left p goals n stops h = go (slice_get_cases goals n).1
 
 pub left-has : (p : Progress) (goals : List Goal) (n : ℕ) → AreEvaluated p goals n → HasLeft goals p → n < length goals
 left-has p goals n all (g, m, left) = elim (cases_lt n (length goals)) [ inl l ↦ l | inr past ↦ absurd (left (all g (subst (λ l. Contains l g) (sym (take_all n goals past)) m))) ]
+
+-- the occurrences that are listed stay so where the queue lists the same, and no more is free
+pub same-listed : (p : Progress) (old new : Queue) → new.free ≡ old.free → new.left ≡ old.left → AreListed p old → AreListed p new
+same-listed p old new free left are o (b, n) = subst (λ s. IsTrue (contains nat_cmp s o.occ)) (sym left) (are o ((subst (λ f. HasBit f.items o) free b), n))
+
+pub woken-listed : (p q : Progress) (goals : List Goal) (old new : Queue) (k : ℕ) → Sorts p goals old → Changes p q k → new.free ≡ old.free → new.left ≡ old.left → AreListed q new
+woken-listed p q goals old new k sorts changes free left = same-listed q old new free left (λ o (b, n). sorts.listed o (b, (λ e. n (changes.evaluated o e))))
+
+-- nothing is left in empty sets
+pub none-listed : (p : Progress) (q : Queue) (n : ℕ) → q.free.items ≡ replicate n 0 → AreListed p q
+none-listed p q n e o (b, left) = absurd (empty-set o.attr.0 (subst (λ b. IsBitSet b o.attr.0) (empty-index n o.occ) (subst (λ (l : List ℕ). HasBit l o) e b)))
+
+-- one more goal is free, and its occurrence is listed
+pub listed-more : (p : Progress) (old new : Queue) (goal : Occ) → ((o : Occ) → HasBit new.free.items o ↔ (HasBit old.free.items o ⊎ (o ≡ goal))) → ((k : ℕ) → IsListed old k ⊎ (k ≡ goal.occ) → IsListed new k) → AreListed p old → AreListed p new
+listed-more p old new goal free left are o (b, n) = elim ((free o).0 b) [ inl c ↦ left o.occ (inl (are o (c, n))) | inr e ↦ left o.occ (inr (ap (λ (x : Occ). x.occ) e)) ]
+
+-- the queue is the same but for what it lists
+pub sorts-same : (p : Progress) (goals : List Goal) (old new : Queue) → (new.free ≡ old.free) × (new.waiting ≡ old.waiting) × (new.seen ≡ old.seen) → AreListed p new → Sorts p goals old → Sorts p goals new
+sorts-same p goals old new (free, waiting, seen) listed sorts = record {
+  free = λ o b. sorts.free o (subst (λ f. HasBit f.items o) free b);
+  seen = λ i g at u m. sorts.seen i g at u (subst (λ s. Contains (take (slice_index s.items i) g.direct.items) u) seen m);
+  stands = λ i g at. stands i g (sorts.stands i g at);
+  listed = listed;
+}
+  where
+    stands : (i : ℕ) (g : Goal) → StandsIn p old i g → StandsIn p new i g
+    stands i g (inl b) = inl (subst (λ f. HasBit f.items g.goal) (sym free) b)
+    stands i g (inr (k, w, b)) = inr (k, subst (λ v. WaitsIn v.items k i) (sym waiting) w, b)

@@ -1,5 +1,7 @@
 -- What the construction keeps of a rule: its goals with what they wait for, and how far the items have come.
-use Rattle.std.specs.Prelude.{◌≡◌, ◌↔◌, ◌⊎◌, ℕ, suc, ◌<◌, ◌≤◌, List, [], map, length, Some, slice_get, slice_index, option_and_then, unwrap_or, All, Contains, take, IsBitSet}
+use Rattle.std.specs.Prelude.{◌≡◌, ◌↔◌, ◌⊎◌, ℕ, suc, ◌<◌, ◌≤◌, List, [], map, length, Option, Some, MatchOption, slice_get, slice_index, option_and_then, unwrap_or, All, Contains, take, IsBitSet, IsTrue}
+use Rattle.std.specs.Ordering.{nat_cmp}
+use Rattle.std.specs.BTreeSet.{contains}
 use Rattle.lido_base.specs.declared.ids.SymId.{SymId}
 use Rattle.lido_base.specs.declared.ids.AttrId.{AttrId}
 use Rattle.flat_grammar.specs.declared.flat.Occ.{Occ}
@@ -10,6 +12,7 @@ use Rattle.flat_grammar.specs.declared.plan.PlanItem.{PlanItem}
 use Rattle.flat_grammar.specs.declared.plan.PlanItem.TheVariants.{Eval, Visit, Leave}
 use Rattle.flat_grammar.specs.Rules.{symbol_at, symbols_of}
 use Rattle.flat_grammar.specs.Dependencies.{DP, IDS}
+use Rattle.flat_grammar.specs.Cycles.{IsAtMost}
 use Rattle.flat_grammar.specs.Partition.{IsEarlier}
 use Rattle.flat_grammar.specs.SoundPlan.{goals_of, segment_after, visits_made, IsEvaluated, IsAtHand}
 use Rattle.visit_sequences.specs.declared.goals.Goal.{Goal}
@@ -88,6 +91,10 @@ abbrev pub IsOpen : Progress → Goal → Type 0
 IsOpen p g = ¬ HasBit p.evaluated.items g.goal × ((a : AttrId) → IsBitSet g.same a.0 → HasBit p.at_hand.items (record { occ = g.goal.occ; attr = a }))
     × ((u : Occ) → Contains g.direct.items u → HasBit p.at_hand.items u)
 
+-- the least goal that is open, if one is
+abbrev pub IsLeastOpen : Progress → List Goal → Option Occ → Type 0
+IsLeastOpen p goals found = MatchOption found (All (λ g. ¬ IsOpen p g) goals) (λ o. ((g : Goal) × Contains goals g × IsOpen p g × (g.goal ≡ o)) × All (λ g. IsOpen p g → IsAtMost o g.goal) goals)
+
 -- all these attributes of the occurrence are evaluated
 abbrev pub HasAll : Progress → ℕ → List AttrId → Type 0
 HasAll p k attrs = All (λ (a : AttrId). HasBit p.evaluated.items (record { occ = k; attr = a })) attrs
@@ -151,7 +158,6 @@ Waits q k i = (w : Waiting) × (slice_get q.waiting.items k ≡ Some w) × Conta
 
 -- all that is free or waits still does
 pub record Keeps (old new : Queue) : Type 0 where
-  pub each : length new.free.items ≡ length old.free.items
   pub free : (o : Occ) → HasBit old.free.items o → HasBit new.free.items o
   pub waits : (k i : ℕ) → Waits old k i → Waits new k i
 
@@ -171,11 +177,24 @@ AreSeen p g n = (u : Occ) → Contains (take n g.direct.items) u → HasBit p.at
 abbrev pub HasSeen : Progress → List Goal → Queue → Type 0
 HasSeen p goals q = (i : ℕ) (g : Goal) → slice_get goals i ≡ Some g → AreSeen p g (slice_index q.seen.items i)
 
--- the queue says of each goal how it stands
+-- the goal is free, and not evaluated
+abbrev pub IsLeft : Progress → Queue → Occ → Type 0
+IsLeft p q o = HasBit q.free.items o × ¬ HasBit p.evaluated.items o
+
+-- a goal may be left at the occurrence
+abbrev pub IsListed : Queue → ℕ → Type 0
+IsListed q k = IsTrue (contains nat_cmp q.left k)
+
+-- the queue lists the occurrences at which a goal is left
+abbrev pub AreListed : Progress → Queue → Type 0
+AreListed p q = (o : Occ) → IsLeft p q o → IsListed q o.occ
+
+-- the queue says of each goal how it stands, and where goals are left
 pub record Sorts (p : Progress) (goals : List Goal) (q : Queue) : Type 0 where
   pub free : AreFree p goals q
   pub seen : HasSeen p goals q
   pub stands : (i : ℕ) (g : Goal) → slice_get goals i ≡ Some g → StandsIn p q i g
+  pub listed : AreListed p q
 
 -- what is evaluated or at hand stays, and more is at hand only at this occurrence
 pub record Changes (old new : Progress) (k : ℕ) : Type 0 where
@@ -188,7 +207,3 @@ abbrev pub place_of : PlanItem → ℕ
 place_of (Eval o) = o.occ
 place_of (Visit k v) = k
 place_of (Leave v) = 0
-
--- the goal is free, and not evaluated
-abbrev pub IsLeft : Progress → Queue → Occ → Type 0
-IsLeft p q o = HasBit q.free.items o × ¬ HasBit p.evaluated.items o

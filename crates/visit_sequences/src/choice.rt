@@ -6,7 +6,7 @@ ghost use Rattle.flat_grammar.specs.Cycles.{IsAtMost};
 ghost use Rattle.flat_grammar.specs.Partition.{AreAllVisits};
 ghost use Rattle.flat_grammar.specs.declared.plan.PlanItem.TheVariants.{Visit};
 ghost use Rattle.visit_sequences.specs.declared.goals.Goal.{Goal as Waiting};
-ghost use Rattle.visit_sequences.specs.Steps.{AreEvaluated, AreGoals, AreOver, Follows, HasBit, HasLeft, IsLeastChild, IsLeft, IsNextAt, IsNoChild, IsOfUseFrom, IsOpen, IsReadyAt, Owes, OwesClass, Sorts, row_of};
+ghost use Rattle.visit_sequences.specs.Steps.{AreEvaluated, AreGoals, AreListed, AreOver, Follows, HasBit, HasLeft, IsLeastChild, IsLeastOpen, IsLeft, IsNextAt, IsNoChild, IsOfUseFrom, IsOpen, IsReadyAt, Owes, OwesClass, Sorts, row_of};
 
 use crate::goals::Goal;
 use crate::progress::Progress;
@@ -79,26 +79,28 @@ impl Progress {
         })
     }
 
-    /// The least goal that is free and not evaluated.
-    fn least_left(&self, queue: &Queue) -> Option<Occ>
-        requires { length queue.now.free.items ≤ 2 ^ 16 }
-        ensures { MatchOption result ((o : Occurrence) → ¬ IsLeft self.now queue.now o)
-            (λ o. IsLeft self.now queue.now o × ((p : Occurrence) → IsLeft self.now queue.now p → IsAtMost o p)) }
+    /// The least goal that is free and not evaluated. An occurrence at which none is left is taken off the queue's set.
+    fn least_left(&self, queue: &mut Queue) -> Option<Occ>
+        requires { AreListed self.now queue.old }
+        ensures same { (queue.new.free ≡ queue.old.free) × (queue.new.waiting ≡ queue.old.waiting) × (queue.new.seen ≡ queue.old.seen) }
+        ensures listed { AreListed self.now queue.new }
+        ensures least { MatchOption result ((o : Occurrence) → ¬ IsLeft self.now queue.old o)
+            (λ o. IsLeft self.now queue.old o × ((p : Occurrence) → IsLeft self.now queue.old p → IsAtMost o p)) }
     {
-        for k in 0..queue.free.len() {
-            if let Some(goal) = self.least_at(queue, k as u16) {
+        while let Some(occ) = queue.first_listed() {
+            if let Some(goal) = self.least_at(queue, occ) {
                 return Some(goal);
             }
+            queue.unlist(occ);
         }
         None
     }
 
     /// The least evaluation that is ready.
-    fn least_ready(&self, goals: &[Goal], queue: &Queue) -> Option<Occ>
-        requires sorts { Sorts self.now goals.now queue.now }
-        requires few { length queue.now.free.items ≤ 2 ^ 16 }
-        ensures { MatchOption result (All (λ g. ¬ IsOpen self.now g) goals.now)
-            (λ o. ((g : Waiting) × Contains goals.now g × IsOpen self.now g × (g.goal ≡ o)) × All (λ g. IsOpen self.now g → IsAtMost o g.goal) goals.now) }
+    pub fn least_ready(&self, goals: &[Goal], queue: &mut Queue) -> Option<Occ>
+        requires { Sorts self.now goals.now queue.old }
+        ensures sorts { Sorts self.now goals.now queue.new }
+        ensures least { IsLeastOpen self.now goals.now result }
     {
         self.least_left(queue)
     }
@@ -268,22 +270,21 @@ impl Progress {
         })
     }
 
-    /// The item that the construction chooses.
+    /// The item that the construction chooses, where this evaluation is the least that is ready.
     pub fn choose(
         &self,
         flat: &Flat,
         parts: &Parts,
         rule: &FlatRule,
         goals: &[Goal],
-        queue: &Queue,
+        ready: Option<Occ>,
         done: Done,
     ) -> Result<PlanItem, Memory>
         requires visits { AreAllVisits flat.now.symbols flat.now.rules parts.now.visits }
         requires rule { Contains flat.now.rules rule.now }
         requires goals { AreGoals flat.now.symbols flat.now.rules rule.now goals.now }
         requires follows { Follows parts.now.visits rule.now self.now }
-        requires sorts { Sorts self.now goals.now queue.now }
-        requires few { length queue.now.free.items ≤ 2 ^ 16 }
+        requires ready { IsLeastOpen self.now goals.now ready }
         requires all { AreEvaluated self.now goals.now done.goals }
         requires stops { (g : Waiting) → slice_get goals.now done.goals ≡ Some g → ¬ HasBit self.now.evaluated.items g.goal }
         requires over { AreOver parts.now.visits rule.now self.now done.children }
@@ -291,7 +292,7 @@ impl Progress {
         ensures { IfOk result (IsChosen flat.now.symbols flat.now.rules parts.now.visits rule.now self.now.items.items) }
     {
         let visits = parts.visits.as_slice();
-        if let Some(goal) = self.least_ready(goals, queue) {
+        if let Some(goal) = ready {
             return Ok(PlanItem::Eval(goal));
         }
         if let Some(occ) = self.owed_child(visits, rule, goals, done) {

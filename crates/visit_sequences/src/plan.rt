@@ -64,7 +64,8 @@ fn sequence(
             goals: done,
             children: over,
         };
-        let item = progress.choose(flat, parts, rule, &goals, &queue, reached)?;
+        let ready = progress.least_ready(&goals, &mut queue);
+        let item = progress.choose(flat, parts, rule, &goals, ready, reached)?;
         progress.take(flat, parts, rule, item)?;
         if is_end(item, last) {
             return Ok(List::from_vec(progress.into_items()));

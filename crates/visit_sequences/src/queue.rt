@@ -1,10 +1,10 @@
 //! The goals of a rule that have all that they wait for, and where the others wait.
-ghost use Rattle.std.specs.Prelude.{◌≡◌, ℕ, ◌<◌, ◌^◌, ◌↔◌, ◌⊎◌, All, Contains, IsTrue, IsBitSet, OnOk, IfOk, MatchOption, Some, length, slice_get, slice_index, slice_set, take};
+ghost use Rattle.std.specs.Prelude.{◌≡◌, ℕ, ◌<◌, ◌≤◌, ◌^◌, ◌↔◌, ◌⊎◌, All, Contains, IsTrue, IsBitSet, OnOk, IfOk, MatchOption, Some, length, slice_get, slice_index, slice_set, take};
 ghost use Rattle.flat_grammar.specs.declared.flat.Occ.{Occ as Occurrence};
 ghost use Rattle.flat_grammar.specs.Cycles.{IsAtMost};
 ghost use Rattle.visit_sequences.specs.declared.goals.Goal.{Goal as Waiter};
 ghost use Rattle.visit_sequences.specs.declared.progress.Progress.{Progress as Before};
-ghost use Rattle.visit_sequences.specs.Steps.{AreFree, AreSeen, Changes, HasBit, HasSeen, IsBlockedAt, IsFree, IsOpen, Keeps, Sorts, StandsIn, Waits};
+ghost use Rattle.visit_sequences.specs.Steps.{AreFree, AreSeen, Changes, HasBit, HasSeen, IsBlockedAt, IsFree, IsListed, IsOpen, AreListed, Keeps, Sorts, StandsIn, Waits};
 
 use crate::bits::with;
 use crate::goals::Goal;
@@ -13,6 +13,7 @@ use flat_grammar::Occ;
 use flat_grammar::bits::is_within;
 use lido_base::Memory;
 use std::alloc::Global;
+use std::collections::BTreeSet;
 use std::mem;
 
 /// The goals that wait at an occurrence, by their places in the list of goals.
@@ -30,6 +31,8 @@ pub struct Queue {
     pub waiting: Vec<Waiting>,
     /// For each goal of the list how many of its computation's dependencies, from the first on, were found at hand.
     pub seen: Vec<usize>,
+    /// The occurrences at which a free goal may be left to evaluate.
+    pub left: BTreeSet<u16>,
 }
 
 /// So many places at which nothing waits.
@@ -49,6 +52,7 @@ impl Queue {
         ensures keeps { OnOk result (Keeps self.old self.new) }
         ensures free { OnOk result (self.new.free ≡ self.old.free) }
         ensures seen { OnOk result (self.new.seen ≡ self.old.seen) }
+        ensures left { OnOk result (self.new.left ≡ self.old.left) }
         ensures waits { OnOk result (Waits self.new occ goal) }
     {
         match self.waiting.get_mut(occ as usize) {
@@ -60,16 +64,43 @@ impl Queue {
         }
     }
 
+    /// A goal may be left at this occurrence.
+    fn list(&mut self, occ: u16) -> Result<(), Memory>
+        ensures same { OnOk result ((self.new.free ≡ self.old.free) × (self.new.waiting ≡ self.old.waiting) × (self.new.seen ≡ self.old.seen)) }
+        ensures left { OnOk result ((k : ℕ) → IsListed self.old k ⊎ (k ≡ occ) → IsListed self.new k) }
+    {
+        self.left.insert(occ)?;
+        Ok(())
+    }
+
+    /// No goal is left at this occurrence.
+    pub fn unlist(&mut self, occ: u16)
+        requires { IsListed self.old occ }
+        ensures same { (self.new.free ≡ self.old.free) × (self.new.waiting ≡ self.old.waiting) × (self.new.seen ≡ self.old.seen) }
+        ensures left { (k : ℕ) → IsListed self.old k → ¬ (k ≡ occ) → IsListed self.new k }
+        ensures fewer { length self.new.left.keys < length self.old.left.keys }
+    {
+        self.left.remove(&occ);
+    }
+
+    /// The least occurrence at which a goal may be left.
+    pub fn first_listed(&self) -> Option<u16>
+        ensures { MatchOption result ((k : ℕ) → ¬ IsListed self.now k) (λ k. IsListed self.now k × ((j : ℕ) → IsListed self.now j → k ≤ j)) }
+    {
+        self.left.first().copied()
+    }
+
     /// The goal has all that it waits for. There is a set for each occurrence, and a symbol has no more than 128 attributes.
     fn set_free(&mut self, goal: Occ) -> Result<(), Memory>
         ensures waiting { OnOk result (self.new.waiting ≡ self.old.waiting) }
         ensures seen { OnOk result (self.new.seen ≡ self.old.seen) }
-        ensures each { OnOk result (length self.new.free.items ≡ length self.old.free.items) }
         ensures free { OnOk result ((o : Occurrence) → HasBit self.new.free.items o ↔ (HasBit self.old.free.items o ⊎ (o ≡ goal))) }
+        ensures left { OnOk result ((k : ℕ) → IsListed self.old k ⊎ (k ≡ goal.occ) → IsListed self.new k) }
     {
         if goal.attr.0 >= 128 {
             return Err(Memory);
         }
+        self.list(goal.occ)?;
         match self.free.get_mut(goal.occ as usize) {
             Some(set) => {
                 *set = with(*set, goal.attr.0 as usize);
@@ -83,6 +114,7 @@ impl Queue {
     fn woken(&mut self, alloc: Global, occ: u16) -> Vec<usize>
         ensures free { self.new.free ≡ self.old.free }
         ensures seen { self.new.seen ≡ self.old.seen }
+        ensures left { self.new.left ≡ self.old.left }
         ensures others { (k i : ℕ) → Waits self.old k i → ¬ (occ ≡ k) → Waits self.new k i }
         ensures here { (i : ℕ) → Waits self.old occ i → Contains result.items i }
     {
@@ -102,6 +134,7 @@ impl Queue {
     /// Notes how many of the goal's dependencies were found at hand.
     fn note(&mut self, at: usize, count: usize)
         ensures same { (self.new.free ≡ self.old.free) × (self.new.waiting ≡ self.old.waiting) }
+        ensures left { self.new.left ≡ self.old.left }
         ensures seen { self.new.seen.items ≡ slice_set self.old.seen.items at count }
     {
         if let Some(seen) = self.seen.get_mut(at) {
@@ -114,6 +147,7 @@ impl Queue {
         requires { AreSeen progress.now goal.now (slice_index self.old.seen.items at) }
         ensures blocked { MatchOption result (IsFree progress.now goal.now) (IsBlockedAt progress.now goal.now) }
         ensures same { (self.new.free ≡ self.old.free) × (self.new.waiting ≡ self.old.waiting) }
+        ensures left { self.new.left ≡ self.old.left }
         ensures others { (j : ℕ) → ¬ (at ≡ j) → slice_index self.new.seen.items j ≡ slice_index self.old.seen.items j }
         ensures seen { AreSeen progress.now goal.now (slice_index self.new.seen.items at) }
     {
@@ -133,8 +167,10 @@ impl Queue {
     fn look(&mut self, progress: &Progress, goals: &[Goal], at: usize) -> Result<(), Memory>
         requires free { AreFree progress.now goals.now self.old }
         requires seen { HasSeen progress.now goals.now self.old }
+        requires listed { AreListed progress.now self.old }
         ensures free { OnOk result (AreFree progress.now goals.now self.new) }
         ensures seen { OnOk result (HasSeen progress.now goals.now self.new) }
+        ensures listed { OnOk result (AreListed progress.now self.new) }
         ensures keeps { OnOk result (Keeps self.old self.new) }
         ensures stands { OnOk result ((g : Waiter) → slice_get goals.now at ≡ Some g → StandsIn progress.now self.new at g) }
     {
@@ -149,14 +185,14 @@ impl Queue {
 
     /// How the goals stand before the first item.
     pub fn start(alloc: Global, progress: &Progress, goals: &[Goal]) -> Result<Queue, Memory>
-        ensures sorts { IfOk result (Sorts progress.now goals.now) }
-        ensures each { IfOk result (λ queue. length queue.free.items ≡ length progress.now.evaluated.items) }
+        ensures { IfOk result (Sorts progress.now goals.now) }
     {
         let count = progress.evaluated.len();
         let mut queue = Queue {
             free: empty_sets(alloc, count)?,
             waiting: empty_places(alloc, count)?,
             seen: zeros(alloc, goals.len())?,
+            left: BTreeSet::new(alloc),
         };
         for at in 0..goals.len() {
             queue.look(progress, goals, at)?;
@@ -173,8 +209,7 @@ impl Queue {
         occ: u16,
     ) -> Result<(), Memory>
         requires { (before : Before) × Sorts before goals.now self.old × Changes before progress.now occ }
-        ensures sorts { OnOk result (Sorts progress.now goals.now self.new) }
-        ensures each { OnOk result (length self.new.free.items ≡ length self.old.free.items) }
+        ensures { OnOk result (Sorts progress.now goals.now self.new) }
     {
         let woken = self.woken(alloc, occ);
         for at in &woken {

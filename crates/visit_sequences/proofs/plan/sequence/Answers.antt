@@ -6,7 +6,7 @@ use Rattle.flat_grammar.specs.declared.plan.PlanItem.TheVariants.{Leave}
 use Rattle.flat_grammar.specs.declared.plan.VisitClass.{VisitClass}
 use Rattle.flat_grammar.specs.Construction.{IsConstructed}
 use Rattle.flat_grammar.specs.SoundPlan.{segment_after}
-use Rattle.visit_sequences.specs.Steps.{row_of, AreOver, Sorts, Changes}
+use Rattle.visit_sequences.specs.Steps.{row_of, AreOver, IsLeastOpen, Sorts, Changes}
 use Rattle.visit_sequences.proofs.Classes.{row-there}
 use Rattle.visit_sequences.proofs.Occurrences.{rule-is}
 use Rattle.visit_sequences.proofs.ChoiceLemmas.{over-stays}
@@ -33,20 +33,19 @@ loop-queue-preserved c =
       chosen = subst (EachChosen visits r flat.symbols flat.rules) (sym c.in_ok-take.ensures.items) (each-more visits r flat.symbols flat.rules items c.in_ok-item.item c.loop-queue.invariant.chosen c.in_ok-item.ensures);
       within = subst (λ l. segment_after l ≤ length (row_of visits r 0)) (sym c.in_ok-take.ensures.items) (still-within visits r flat.symbols flat.rules items c.in_ok-item.item c.in_ok-item.ensures c.loop-queue.invariant.within
           (λ e. true≢false (sym (c.is_end.ensures.1 (e ∙ ap (λ (l : List VisitClass). Leave (length l)) (sym row))) ∙ c.if-is_end.false)));
-      sorts = subst (λ l. Sorts c.take.new.self l c.wake.new.self) c.deref-in-loop-queue-3.ensures.value c.in_ok-wake.ensures.sorts;
+      sorts = subst (λ l. Sorts c.take.new.self l c.wake.new.self) c.deref-in-loop-queue-4.ensures.value c.in_ok-wake.ensures;
       done = λ g m. c.in_ok-take.ensures.changes.evaluated g.goal (c.evaluated_from-done.ensures.all g (subst (λ l. Contains (take c.evaluated_from-done.result l) g) (sym c.deref-in-loop-queue.ensures.value) m));
       over = over-stays visits r c.loop-queue.progress c.take.new.self c.in_ok-item.item c.loop-queue.invariant.follows c.in_ok-take.ensures.follows c.in_ok-take.ensures.items c.over_from-over.result
           (subst (λ l. AreOver l r c.loop-queue.progress c.over_from-over.result) c.as_slice-in-loop-queue.ensures c.over_from-over.ensures.over);
-      few = (let e = c.in_ok-wake.ensures.each in let f = c.loop-queue.invariant.few in omega (arith, e, f));
     }
 
-pub choose-requires-clause-sorts : goal.choose-requires-clause-sorts
-choose-requires-clause-sorts c = subst (λ l. Sorts c.loop-queue.progress l c.loop-queue.queue) (sym c.deref-in-loop-queue-2.ensures.value) c.loop-queue.invariant.sorts
+pub least_ready-ready-requires : goal.least_ready-ready-requires
+least_ready-ready-requires c = subst (λ l. Sorts c.loop-queue.progress l c.loop-queue.queue) (sym c.deref-in-loop-queue-2.ensures.value) c.loop-queue.invariant.sorts
 
 pub wake-requires : goal.wake-requires
 wake-requires c = (
   c.loop-queue.progress,
-  subst (λ l. Sorts c.loop-queue.progress l c.loop-queue.queue) (sym c.deref-in-loop-queue-3.ensures.value) c.loop-queue.invariant.sorts,
+  subst (λ l. Sorts c.loop-queue.progress l c.least_ready-ready.new.queue) (c.deref-in-loop-queue-2.ensures.value ∙ sym c.deref-in-loop-queue-4.ensures.value) c.least_ready-ready.ensures.sorts,
   subst (λ k. Changes c.loop-queue.progress c.take.new.self k) (sym c.place.ensures) c.in_ok-take.ensures.changes,
 )
 
@@ -80,8 +79,10 @@ loop-queue-init c =
       follows = c.in_ok-progress.ensures.follows;
       chosen = first_of (search rules, grind (arith, common_steps));
       within = omega (arith, e, l, h);
-      sorts = subst (λ l. Sorts c.in_ok-progress.progress l c.in_ok-queue.queue) c.deref.ensures.value c.in_ok-queue.ensures.sorts;
+      sorts = subst (λ l. Sorts c.in_ok-progress.progress l c.in_ok-queue.queue) c.deref.ensures.value c.in_ok-queue.ensures;
       done = λ g m. absurd (contains-nil g m);
       over = λ k pos within. absurd (omega (arith, pos, within));
-      few = first_of (search rules, grind (arith, common_steps));
     }
+
+pub choose-requires-clause-ready : goal.choose-requires-clause-ready
+choose-requires-clause-ready c = subst (λ l. IsLeastOpen c.loop-queue.progress l c.least_ready-ready.result) (c.deref-in-loop-queue-2.ensures.value ∙ sym c.deref-in-loop-queue-3.ensures.value) c.least_ready-ready.ensures.least

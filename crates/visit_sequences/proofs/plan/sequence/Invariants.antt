@@ -1,4 +1,4 @@
-use Rattle.std.proofs.Common.{◌≤◌, ◌^◌, length}
+use Rattle.std.proofs.Common.{◌≤◌, length}
 use Rattle.flat_grammar.specs.SoundPlan.{segment_after}
 use Rattle.visit_sequences.specs.Steps.{row_of, AreEvaluated, AreOver, Follows, Sorts}
 use Rattle.visit_sequences.proofs.MeasureLemmas.{EachChosen, left_over}
@@ -13,7 +13,6 @@ invariant-loop-queue l = record {
   sorts : Sorts l.progress l.goals.items l.queue;
   done : AreEvaluated l.progress l.goals.items l.done;
   over : AreOver l.parts.visits l.rule l.progress l.over;
-  few : length l.queue.free.items ≤ 2 ^ 16;
 }
 
 abbrev pub decreases-loop-queue : goal.decreases-loop-queue

@@ -1,11 +1,11 @@
 use Rattle.std.specs.Prelude.{slice_get, Some, ◌↔◌, ◌⊎◌, Contains, take, slice_index}
-use Rattle.std.proofs.Common.{◌≡◌, ◌∙◌, sym, subst, refl, inl, inr, length}
+use Rattle.std.proofs.Common.{◌≡◌, ℕ, ◌∙◌, sym, subst, refl, inl, inr, length}
 use Rattle.std.proofs.lemmas.Option.{slice_get_read}
 use Rattle.flat_grammar.specs.declared.flat.Occ.{Occ}
 use Rattle.flat_grammar.proofs.Lists.{held, contains-slice_get}
 use Rattle.visit_sequences.specs.declared.goals.Goal.{Goal}
-use Rattle.visit_sequences.specs.Steps.{AreFree, HasBit, HasSeen, Keeps, StandsIn, Waits, IsBlockedAt}
-use Rattle.visit_sequences.proofs.QueueLemmas.{on_ok-then, on_ok-three, free-more, keeps-more, keeps-same, seen-next}
+use Rattle.visit_sequences.specs.Steps.{AreFree, AreListed, IsListed, HasBit, HasSeen, Keeps, StandsIn, Waits, IsBlockedAt}
+use Rattle.visit_sequences.proofs.QueueLemmas.{on_ok-then, on_ok-two, free-more, listed-more, same-listed, keeps-more, keeps-same, seen-next}
 use Rattle.visit_sequences.proofs.queue.Queue.look.Goals as goal
 
 pub returns-in-Some-blocked-clause-free : goal.returns-in-Some-blocked-clause-free
@@ -44,8 +44,8 @@ returns-in-None-clause-keeps c =
     let old = c.blocked.new.self in
     let new = c.set_free.new.self in
     let o = c.in-Some.goal.now.goal in
-    on_ok-three c.set_free.result (new.waiting ≡ old.waiting) (length new.free.items ≡ length old.free.items) ((u : Occ) → HasBit new.free.items u ↔ (HasBit old.free.items u ⊎ (u ≡ o))) (Keeps c.args.self.now new)
-    (λ same each step. keeps-same c.args.self.now old new c.blocked.ensures.same (keeps-more old new o same each step)) c.set_free.ensures.waiting c.set_free.ensures.each c.set_free.ensures.free
+    on_ok-two c.set_free.result (new.waiting ≡ old.waiting) ((u : Occ) → HasBit new.free.items u ↔ (HasBit old.free.items u ⊎ (u ≡ o))) (Keeps c.args.self.now new)
+    (λ same step. keeps-same c.args.self.now old new c.blocked.ensures.same (keeps-more old new o same step)) c.set_free.ensures.waiting c.set_free.ensures.free
 
 pub returns-in-None-clause-stands : goal.returns-in-None-clause-stands
 returns-in-None-clause-stands c =
@@ -97,3 +97,20 @@ returns-in-None-clause-seen c =
     let at : slice_get goals i ≡ Some g = slice_get_read goals (length goals) i g refl got.3.0 got.1 in
     on_ok-then c.set_free.result (new.seen ≡ old.seen) (HasSeen p goals new)
     (λ same j x e u m. seen-next p goals c.args.self.now old i g at c.requires.seen c.blocked.ensures.others c.blocked.ensures.seen j x e u (subst (λ s. Contains (take (slice_index s.items j) x.direct.items) u) same m)) c.set_free.ensures.seen
+
+pub returns-in-Some-blocked-clause-listed : goal.returns-in-Some-blocked-clause-listed
+returns-in-Some-blocked-clause-listed c =
+    let p = c.args.progress.now in
+    let old = c.blocked.new.self in
+    let new = c.wait.new.self in
+    on_ok-two c.wait.result (new.free ≡ old.free) (new.left ≡ old.left) (AreListed p new)
+    (λ free left. same-listed p c.args.self.now new (free ∙ c.blocked.ensures.same.0) (left ∙ c.blocked.ensures.left) c.requires.listed) c.wait.ensures.free c.wait.ensures.left
+
+pub returns-in-None-clause-listed : goal.returns-in-None-clause-listed
+returns-in-None-clause-listed c =
+    let p = c.args.progress.now in
+    let old = c.blocked.new.self in
+    let new = c.set_free.new.self in
+    let g = c.in-Some.goal.now.goal in
+    on_ok-two c.set_free.result ((o : Occ) → HasBit new.free.items o ↔ (HasBit old.free.items o ⊎ (o ≡ g))) ((k : ℕ) → IsListed old k ⊎ (k ≡ g.occ) → IsListed new k) (AreListed p new)
+    (λ free left. listed-more p old new g free left (same-listed p c.args.self.now old c.blocked.ensures.same.0 c.blocked.ensures.left c.requires.listed)) c.set_free.ensures.free c.set_free.ensures.left

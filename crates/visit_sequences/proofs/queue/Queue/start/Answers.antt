@@ -1,4 +1,4 @@
-use Rattle.std.proofs.Common.{◌∙◌, arith}
+use Rattle.std.proofs.Common.{arith}
 use Rattle.std.proofs.lemmas.Option.{slice_get_within}
 use Rattle.visit_sequences.proofs.QueueLemmas.{stands-next}
 use Rattle.visit_sequences.proofs.queue.Queue.start.Goals as goal
@@ -10,12 +10,13 @@ loop-at-preserved c =
       free = done.free;
       seen = done.seen;
       stands = stands-next c.args.progress.now c.args.goals.now c.loop-at.queue c.look.new.self c.loop-at.at done.keeps c.loop-at.invariant.stands done.stands;
-      each = done.keeps.each ∙ c.loop-at.invariant.each;
+      listed = done.listed;
     }
 
-pub returns-clause-sorts : goal.returns-clause-sorts
-returns-clause-sorts c = record {
+pub returns : goal.returns
+returns c = record {
   free = c.loop-at.invariant.free;
   seen = c.loop-at.invariant.seen;
   stands = λ i g at. c.loop-at.invariant.stands i g (let l = slice_get_within c.args.goals.now i g at in let t = c.loop-at-test.false in omega (arith, l, t)) at;
+  listed = c.loop-at.invariant.listed;
 }

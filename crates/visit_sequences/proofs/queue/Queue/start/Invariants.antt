@@ -1,7 +1,7 @@
-use Rattle.std.specs.Prelude.{slice_get, length}
+use Rattle.std.specs.Prelude.{slice_get}
 use Rattle.std.proofs.Common.{◌<◌, ◌≡◌, ℕ, Some}
 use Rattle.visit_sequences.specs.declared.goals.Goal.{Goal}
-use Rattle.visit_sequences.specs.Steps.{AreFree, HasSeen, StandsIn}
+use Rattle.visit_sequences.specs.Steps.{AreFree, AreListed, HasSeen, StandsIn}
 use Rattle.visit_sequences.proofs.queue.Queue.start.Given as goal
 
 -- it says of the goals so far how they stand
@@ -10,5 +10,5 @@ invariant-loop-at l = record {
   free : AreFree l.progress l.goals l.queue;
   seen : HasSeen l.progress l.goals l.queue;
   stands : (i : ℕ) (g : Goal) → i < l.at → slice_get l.goals i ≡ Some g → StandsIn l.progress l.queue i g;
-  each : length l.queue.free.items ≡ length l.progress.evaluated.items;
+  listed : AreListed l.progress l.queue;
 }

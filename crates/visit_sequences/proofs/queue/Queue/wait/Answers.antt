@@ -1,4 +1,4 @@
-use Rattle.std.proofs.Common.{◌≡◌, ◌<◌, ◌∙◌, Some, ap, sym, refl, rules, length, slice_get}
+use Rattle.std.proofs.Common.{◌≡◌, ◌<◌, ◌∙◌, Some, ap, sym, rules, length, slice_get}
 use Rattle.std.proofs.lemmas.Option.{slice_get-get_or}
 use Rattle.visit_sequences.proofs.QueueLemmas.{waits-more, waits-here}
 use Rattle.visit_sequences.proofs.queue.Queue.wait.Goals as goal
@@ -9,7 +9,6 @@ returns-in_ok-push-in-Some-clause-keeps c =
     let inside : c.args.occ < length xs = search rules in
     let at : slice_get xs c.args.occ ≡ Some c.in-Some.place.now = slice_get-get_or xs c.args.occ c.in-Some.place.now inside ∙ ap Some (sym c.in-Some.ensures.value) in
     record {
-      each = refl;
       free = λ o b. b;
       waits = waits-more xs c.args.occ c.in-Some.place.now (record { goals = c.push.new.self }) c.args.goal at c.in_ok-push-in-Some.ensures.items;
     }

@@ -1,8 +1,8 @@
 -- What the tests of the progress say of the construction's choice.
 use Rattle.std.specs.Prelude.{All, Contains, slice_get, slice_index, map, IsSome, IsBitSet, ◌↔◌, MatchOption, take, IsTrue, IfOk}
 use Rattle.std.proofs.Common.{◌≡◌, ℕ, zero, suc, ◌<◌, ◌≤◌, ◌+◌, ◌⊎◌, inl, inr, List, [], ◌∷◌, ◌++◌, length, get_or, Option, Some, Result, Ok, Err, refl, arith, ap, sym, subst, ◌∙◌}
-use Rattle.std.proofs.lemmas.Bool.{cases_lt}
-use Rattle.std.proofs.lemmas.Option.{slice_get_within, slice_get-get_or}
+use Rattle.std.proofs.lemmas.Bool.{cases_lt, cases_eq}
+use Rattle.std.proofs.lemmas.Option.{slice_get_within, slice_get_past, slice_get-get_or}
 use Rattle.std.proofs.lemmas.List.{get_or_past}
 use Rattle.std.proofs.lemmas.List.Elements.{All-contains, All-weaker}
 use Rattle.lido_base.specs.declared.ids.SymId.{SymId}
@@ -25,8 +25,10 @@ use Rattle.flat_grammar.specs.SoundPlan.{goals_of, segment_after, visits_made, I
 use Rattle.flat_grammar.specs.Construction.{IsReady, IsNext, IsReadyVisit, IsLastSegment, IsOwing, HasReady, HasReadyVisit, HasNext, IsChosen, evaluation, ready_visit, next_visit, leave}
 use Rattle.flat_grammar.proofs.Lists.{held, contains-nil, contains-cons, contains-first, contains-later}
 use Rattle.visit_sequences.specs.declared.goals.Goal.{Goal}
+use Rattle.visit_sequences.specs.declared.listed.Listed.{Listed}
 use Rattle.visit_sequences.specs.declared.progress.Progress.{Progress}
-use Rattle.visit_sequences.specs.Steps.{row_of, IsBefore, IsGoal, AreGoals, HasBit, Follows, IsOpen, HasAll, IsReadyAt, IsNextAt, AreOver, Owes, IsLeastChild, IsNoChild}
+use Rattle.visit_sequences.specs.declared.rest.Rest.{Rest}
+use Rattle.visit_sequences.specs.Steps.{row_of, IsBefore, IsGoal, AreGoals, HasBit, Follows, IsOpen, HasAll, IsListed, IsOfUseFrom, IsReadyAt, IsNextAt, AreListedChildren, AreOver, Changes, IsRest, Owes, IsLeastChild, IsNoChild}
 use Rattle.visit_sequences.proofs.Classes.{row-there}
 use Rattle.visit_sequences.proofs.Occurrences.{rule-is}
 use Rattle.visit_sequences.proofs.StepLemmas.{row-class, class-row}
@@ -199,17 +201,16 @@ module _ (symbols : List FlatSymbol) (rules : List FlatRule) (visits : List (Lis
         → IsChosen symbols rules visits r Before (Leave n)
     chosen-leave n e none idle over = subst (λ k. IsChosen symbols rules visits r Before (Leave k)) (sym (e ∙ follows.segment)) (leave (quiet-is none) (no-ready_visit idle) (no-next over))
 
--- no child up to one more
-pub none-more : (P : ℕ → Type 0) (k : ℕ) → ((j : ℕ) → 0 < j → j ≤ k → P j → ⊥) → (P (k + 1) → ⊥) → (j : ℕ) → 0 < j → j ≤ k + 1 → P j → ⊥
-none-more P k none one j pos h p = elim (cases_lt k j) [ inl l ↦ (let e : j ≡ k + 1 = omega (arith, l, h) in one (subst P e p)) | inr g ↦ none j pos g p ]
+-- a child whose next visit is ready is one
+pub ready-child : (visits : List (List VisitClass)) (r : FlatRule) (p : Progress) (k : ℕ) → 0 < k → IsReadyAt visits r p k → k ≤ length r.right
+ready-child visits r p k pos ready = elim (cases_lt k (length (symbols_of r))) [
+  | inl inside ↦ omega (arith, inside)
+  | inr past ↦ absurd (let l = slice_get_within (row_of visits r k) (slice_index p.made.items k) ready.0 ready.1 in let e : length (row_of visits r k) ≡ 0 = ap (λ (s : Option SymId). length (Rattle.std.specs.Prelude.unwrap_or (Rattle.std.specs.Prelude.option_and_then (λ (x : SymId). slice_get visits x.0) s) [])) (slice_get_past (symbols_of r) k past) in omega (arith, l, e))
+]
 
--- the first child is the least
-pub first-child : (r : FlatRule) (P : ℕ → Type 0) (k : ℕ) → k < length r.right → ((j : ℕ) → 0 < j → j ≤ k → P j → ⊥) → P (k + 1) → IsLeastChild r P (k + 1)
-first-child r P k h none here = ((omega arith), (omega (arith, h)), here, (λ j pos p. elim (cases_lt k j) [ inl l ↦ omega (arith, l) | inr g ↦ absurd (none j pos g p) ]))
-
--- a child whose next visit is ready has a visit left
-pub ready-next : (visits : List (List VisitClass)) (r : FlatRule) (p : Progress) (k : ℕ) → IsReadyAt visits r p k → IsNextAt visits r p k
-ready-next visits r p k h = slice_get_within (row_of visits r k) (slice_index p.made.items k) h.0 h.1
+-- the least that is listed is the least child that is ready, if it is ready
+pub listed-least : (visits : List (List VisitClass)) (r : FlatRule) (p : Progress) (listed : Listed) (k : ℕ) → AreListedChildren visits r p listed → ((j : ℕ) → IsListed listed j → k ≤ j) → 0 < k → IsReadyAt visits r p k → IsLeastChild r (IsReadyAt visits r p) k
+listed-least visits r p listed k are least pos ready = (pos, ready-child visits r p k pos ready, ready, (λ j above other. least j (are j above other)))
 
 -- a child that has no visit left has none behind one more item
 pub over-stays : (visits : List (List VisitClass)) (r : FlatRule) (old new : Progress) (item : PlanItem) → Follows visits r old → Follows visits r new → new.items.items ≡ old.items.items ++ item ∷ [] → (n : ℕ) → AreOver visits r old n → AreOver visits r new n
@@ -222,6 +223,30 @@ over-stays visits r old new item before after items n over k pos within left = e
       let b = get_or_past new.made.items k 0 (let e = after.each_made in omega arith) in
       over k pos within (omega arith))
 ]
+
+-- only at the place of the item has a child become ready
+pub ready-stays : (visits : List (List VisitClass)) (r : FlatRule) (old new : Progress) (k : ℕ) → Changes old new k → (j : ℕ) → (j ≡ k → ⊥) → IsReadyAt visits r new j → IsReadyAt visits r old j
+ready-stays visits r old new k changes j other (c, at, all, useful) =
+    let same : slice_index new.made.items j ≡ slice_index old.made.items j = changes.made j other in
+    (c, subst (λ n. slice_get (row_of visits r j) n ≡ Some c) same at,
+    All-weaker (λ (a : AttrId). HasBit new.evaluated.items (record { occ = j; attr = a })) (λ (a : AttrId). HasBit old.evaluated.items (record { occ = j; attr = a }))
+      (λ a bit. elim (changes.evaluated_there (record { occ = j; attr = a }) bit) [ inl b ↦ b | inr e ↦ absurd (other e) ]) c.inherited all,
+    subst (λ n. IsOfUseFrom (row_of visits r j) n) same useful)
+
+pub listed-stay : (visits : List (List VisitClass)) (r : FlatRule) (old new : Progress) (k : ℕ) (before after : Listed) → Changes old new k → ((j : ℕ) → IsListed before j ⊎ (j ≡ k) → IsListed after j) → AreListedChildren visits r old before → AreListedChildren visits r new after
+listed-stay visits r old new k before after changes more are j pos ready = elim (cases_eq j k) [
+  | inl e ↦ more j (inr e)
+  | inr n ↦ more j (inl (are j pos (ready-stays visits r old new k changes j n ready)))
+]
+
+-- what is left stays so behind one more item, where its place is listed
+pub rest-stays : (visits : List (List VisitClass)) (r : FlatRule) (goals : List Goal) (old new : Progress) (item : PlanItem) (k : ℕ) (before after : Rest) → Follows visits r old → Follows visits r new → new.items.items ≡ old.items.items ++ item ∷ [] → Changes old new k
+    → after.goals ≡ before.goals → after.children ≡ before.children → ((j : ℕ) → IsListed before.ready j ⊎ (j ≡ k) → IsListed after.ready j) → IsRest visits r old goals before → IsRest visits r new goals after
+rest-stays visits r goals old new item k before after follows next items changes same_goals same_children listed rest = record {
+  evaluated = λ g m. changes.evaluated g.goal (rest.evaluated g (subst (λ n. Contains (take n goals) g) same_goals m));
+  over = over-stays visits r old new item follows next items after.children (subst (λ n. AreOver visits r old n) (sym same_children) rest.over);
+  ready = listed-stay visits r old new k before.ready after.ready changes listed rest.ready;
+}
 
 -- the list is empty where its length is not above 0
 pub empty-list : {X : Type 0} (xs : List X) → length xs ≤ 0 → xs ≡ []

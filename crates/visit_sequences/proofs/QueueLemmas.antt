@@ -198,7 +198,7 @@ left-has p goals n all (g, m, left) = elim (cases_lt n (length goals)) [ inl l �
 
 -- the occurrences that are listed stay so where the queue lists the same, and no more is free
 pub same-listed : (p : Progress) (old new : Queue) → new.free ≡ old.free → new.left ≡ old.left → AreListed p old → AreListed p new
-same-listed p old new free left are o (b, n) = subst (λ s. IsTrue (contains nat_cmp s o.occ)) (sym left) (are o ((subst (λ f. HasBit f.items o) free b), n))
+same-listed p old new free left are o (b, n) = subst (λ s. IsListed s o.occ) (sym left) (are o ((subst (λ f. HasBit f.items o) free b), n))
 
 pub woken-listed : (p q : Progress) (goals : List Goal) (old new : Queue) (k : ℕ) → Sorts p goals old → Changes p q k → new.free ≡ old.free → new.left ≡ old.left → AreListed q new
 woken-listed p q goals old new k sorts changes free left = same-listed q old new free left (λ o (b, n). sorts.listed o (b, (λ e. n (changes.evaluated o e))))
@@ -208,7 +208,7 @@ pub none-listed : (p : Progress) (q : Queue) (n : ℕ) → q.free.items ≡ repl
 none-listed p q n e o (b, left) = absurd (empty-set o.attr.0 (subst (λ b. IsBitSet b o.attr.0) (empty-index n o.occ) (subst (λ (l : List ℕ). HasBit l o) e b)))
 
 -- one more goal is free, and its occurrence is listed
-pub listed-more : (p : Progress) (old new : Queue) (goal : Occ) → ((o : Occ) → HasBit new.free.items o ↔ (HasBit old.free.items o ⊎ (o ≡ goal))) → ((k : ℕ) → IsListed old k ⊎ (k ≡ goal.occ) → IsListed new k) → AreListed p old → AreListed p new
+pub listed-more : (p : Progress) (old new : Queue) (goal : Occ) → ((o : Occ) → HasBit new.free.items o ↔ (HasBit old.free.items o ⊎ (o ≡ goal))) → ((k : ℕ) → IsListed old.left k ⊎ (k ≡ goal.occ) → IsListed new.left k) → AreListed p old → AreListed p new
 listed-more p old new goal free left are o (b, n) = elim ((free o).0 b) [ inl c ↦ left o.occ (inl (are o (c, n))) | inr e ↦ left o.occ (inr (ap (λ (x : Occ). x.occ) e)) ]
 
 -- the queue is the same but for what it lists

@@ -1,5 +1,5 @@
 -- What the construction keeps of a rule: its goals with what they wait for, and how far the items have come.
-use Rattle.std.specs.Prelude.{◌≡◌, ◌↔◌, ◌⊎◌, ℕ, suc, ◌<◌, ◌≤◌, List, [], map, length, Option, Some, MatchOption, slice_get, slice_index, option_and_then, unwrap_or, All, Contains, take, IsBitSet, IsTrue}
+use Rattle.std.specs.Prelude.{◌≡◌, ◌↔◌, ◌⊎◌, ◌+◌, ℕ, suc, ◌<◌, ◌≤◌, List, [], map, length, Option, Some, MatchOption, slice_get, slice_index, option_and_then, unwrap_or, All, Contains, take, IsBitSet, IsTrue}
 use Rattle.std.specs.Ordering.{nat_cmp}
 use Rattle.std.specs.BTreeSet.{contains}
 use Rattle.lido_base.specs.declared.ids.SymId.{SymId}
@@ -16,9 +16,11 @@ use Rattle.flat_grammar.specs.Cycles.{IsAtMost}
 use Rattle.flat_grammar.specs.Partition.{IsEarlier}
 use Rattle.flat_grammar.specs.SoundPlan.{goals_of, segment_after, visits_made, IsEvaluated, IsAtHand}
 use Rattle.visit_sequences.specs.declared.goals.Goal.{Goal}
+use Rattle.visit_sequences.specs.declared.listed.Listed.{Listed}
 use Rattle.visit_sequences.specs.declared.progress.Progress.{Progress}
 use Rattle.visit_sequences.specs.declared.queue.Waiting.{Waiting}
 use Rattle.visit_sequences.specs.declared.queue.Queue.{Queue}
+use Rattle.visit_sequences.specs.declared.rest.Rest.{Rest}
 
 -- the visits of the symbol at an occurrence, none where there is no symbol
 abbrev pub row_of : List (List VisitClass) → FlatRule → ℕ → List VisitClass
@@ -111,6 +113,10 @@ HasLeft goals p = (g : Goal) × Contains goals g × ¬ HasBit p.evaluated.items 
 abbrev pub AreEvaluated : Progress → List Goal → ℕ → Type 0
 AreEvaluated p goals n = (g : Goal) → Contains (take n goals) g → HasBit p.evaluated.items g.goal
 
+-- the occurrence is to be looked at
+abbrev pub IsListed : Listed → ℕ → Type 0
+IsListed l k = IsTrue (contains nat_cmp l.occurrences k)
+
 -- from this visit on, counted from 0, one has a synthesized attribute
 abbrev pub IsOfUseFrom : List VisitClass → ℕ → Type 0
 IsOfUseFrom row from = (w : ℕ) × (c : VisitClass) × (from ≤ w) × (slice_get row w ≡ Some c) × ¬ (c.synthesized ≡ [])
@@ -127,6 +133,21 @@ module _ (visits : List (List VisitClass)) (r : FlatRule) (p : Progress) where
   -- none of so many children, from the first on, has a visit left
   abbrev pub AreOver : ℕ → Type 0
   AreOver n = (k : ℕ) → 0 < k → k ≤ n → ¬ IsNextAt k
+
+  -- each child whose next visit is ready is listed
+  abbrev pub AreListedChildren : Listed → Type 0
+  AreListedChildren l = (k : ℕ) → 0 < k → IsReadyAt k → IsListed l k
+
+  -- the goals and children that are passed over have nothing left, and the children that are ready are listed
+  pub record IsRest (goals : List Goal) (rest : Rest) : Type 0 where
+    pub evaluated : AreEvaluated p goals rest.goals
+    pub over : AreOver rest.children
+    pub ready : AreListedChildren rest.ready
+
+  -- the first goal and the first child that are not passed over have something left
+  pub record Stops (goals : List Goal) (rest : Rest) : Type 0 where
+    pub goal : (g : Goal) → slice_get goals rest.goals ≡ Some g → ¬ HasBit p.evaluated.items g.goal
+    pub child : rest.children < length r.right → IsNextAt (rest.children + 1)
 
   -- the present visit still owes something
   abbrev pub Owes : List Goal → Type 0
@@ -181,13 +202,9 @@ HasSeen p goals q = (i : ℕ) (g : Goal) → slice_get goals i ≡ Some g → Ar
 abbrev pub IsLeft : Progress → Queue → Occ → Type 0
 IsLeft p q o = HasBit q.free.items o × ¬ HasBit p.evaluated.items o
 
--- a goal may be left at the occurrence
-abbrev pub IsListed : Queue → ℕ → Type 0
-IsListed q k = IsTrue (contains nat_cmp q.left k)
-
 -- the queue lists the occurrences at which a goal is left
 abbrev pub AreListed : Progress → Queue → Type 0
-AreListed p q = (o : Occ) → IsLeft p q o → IsListed q o.occ
+AreListed p q = (o : Occ) → IsLeft p q o → IsListed q.left o.occ
 
 -- the queue says of each goal how it stands, and where goals are left
 pub record Sorts (p : Progress) (goals : List Goal) (q : Queue) : Type 0 where
@@ -196,11 +213,13 @@ pub record Sorts (p : Progress) (goals : List Goal) (q : Queue) : Type 0 where
   pub stands : (i : ℕ) (g : Goal) → slice_get goals i ≡ Some g → StandsIn p q i g
   pub listed : AreListed p q
 
--- what is evaluated or at hand stays, and more is at hand only at this occurrence
+-- what is evaluated or at hand stays; more is evaluated or at hand, and visits are made, only at this occurrence
 pub record Changes (old new : Progress) (k : ℕ) : Type 0 where
   pub evaluated : (u : Occ) → HasBit old.evaluated.items u → HasBit new.evaluated.items u
+  pub evaluated_there : (u : Occ) → HasBit new.evaluated.items u → HasBit old.evaluated.items u ⊎ (u.occ ≡ k)
   pub stays : (u : Occ) → HasBit old.at_hand.items u → HasBit new.at_hand.items u
   pub there : (u : Occ) → HasBit new.at_hand.items u → HasBit old.at_hand.items u ⊎ (u.occ ≡ k)
+  pub made : (j : ℕ) → ¬ (j ≡ k) → slice_index new.made.items j ≡ slice_index old.made.items j
 
 -- the occurrence that an item is about
 abbrev pub place_of : PlanItem → ℕ

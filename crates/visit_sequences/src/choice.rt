@@ -6,24 +6,17 @@ ghost use Rattle.flat_grammar.specs.Cycles.{IsAtMost};
 ghost use Rattle.flat_grammar.specs.Partition.{AreAllVisits};
 ghost use Rattle.flat_grammar.specs.declared.plan.PlanItem.TheVariants.{Visit};
 ghost use Rattle.visit_sequences.specs.declared.goals.Goal.{Goal as Waiting};
-ghost use Rattle.visit_sequences.specs.Steps.{AreEvaluated, AreGoals, AreListed, AreOver, Follows, HasBit, HasLeft, IsLeastChild, IsLeastOpen, IsLeft, IsNextAt, IsNoChild, IsOfUseFrom, IsOpen, IsReadyAt, Owes, OwesClass, Sorts, row_of};
+ghost use Rattle.visit_sequences.specs.Steps.{AreEvaluated, AreGoals, AreListed, AreListedChildren, AreOver, Follows, HasBit, HasLeft, IsLeastChild, IsLeastOpen, IsLeft, IsNextAt, IsNoChild, IsOfUseFrom, IsReadyAt, IsRest, Owes, OwesClass, Sorts, Stops, row_of};
 
 use crate::goals::Goal;
 use crate::progress::Progress;
+use crate::listed::Listed;
 use crate::queue::Queue;
+use crate::rest::Rest;
 use crate::rows::row_at;
 use flat_grammar::bits::has;
 use flat_grammar::{Flat, FlatRule, Occ, Parts, PlanItem, VisitClass};
 use lido_base::{AttrId, List, Memory};
-
-/// Up to where, from the first on, goals and children have nothing left.
-#[derive(Clone, Copy)]
-pub struct Done {
-    /// How many goals are evaluated.
-    pub goals: usize,
-    /// How many children have no visit left.
-    pub children: usize,
-}
 
 /// The least number that is in the one set and not in the other.
 fn least_new(set: u128, old: u128) -> Option<u16>
@@ -87,11 +80,11 @@ impl Progress {
         ensures least { MatchOption result ((o : Occurrence) → ¬ IsLeft self.now queue.old o)
             (λ o. IsLeft self.now queue.old o × ((p : Occurrence) → IsLeft self.now queue.old p → IsAtMost o p)) }
     {
-        while let Some(occ) = queue.first_listed() {
+        while let Some(occ) = queue.left.first() {
             if let Some(goal) = self.least_at(queue, occ) {
                 return Some(goal);
             }
-            queue.unlist(occ);
+            queue.left.unlist(occ);
         }
         None
     }
@@ -116,20 +109,6 @@ impl Progress {
             Some(class) => !self.has_all(0, class.synthesized.as_slice()),
             None => false,
         }
-    }
-
-    /// The place of the first goal that is not evaluated, where those before this place are.
-    pub fn evaluated_from(&self, goals: &[Goal], done: usize) -> usize
-        requires { AreEvaluated self.now goals.now done }
-        ensures all { AreEvaluated self.now goals.now result }
-        ensures stops { (g : Waiting) → slice_get goals.now result ≡ Some g → ¬ HasBit self.now.evaluated.items g.goal }
-    {
-        for k in done..goals.len() {
-            if !self.is_evaluated(goals[k].goal) {
-                return k;
-            }
-        }
-        goals.len()
     }
 
     /// Whether a goal is not evaluated, by the place of the first one.
@@ -169,42 +148,24 @@ impl Progress {
         }
     }
 
-    /// The least child whose next visit is ready and not idle, where so many from the first on have no visit left.
-    fn ready_child(&self, visits: &[List<VisitClass>], rule: &FlatRule, over: usize) -> Option<u16>
-        requires few { length rule.now.right < 2 ^ 16 }
-        requires over { AreOver visits.now rule.now self.now over }
-        ensures { MatchOption result (IsNoChild rule.now (IsReadyAt visits.now rule.now self.now)) (IsLeastChild rule.now (IsReadyAt visits.now rule.now self.now)) }
+    /// The least child whose next visit is ready and not idle. One that isn't ready is taken off the list.
+    fn ready_child(
+        &self,
+        visits: &[List<VisitClass>],
+        rule: &FlatRule,
+        ready: &mut Listed,
+    ) -> Option<u16>
+        requires { AreListedChildren visits.now rule.now self.now ready.old }
+        ensures listed { AreListedChildren visits.now rule.now self.now ready.new }
+        ensures least { MatchOption result (IsNoChild rule.now (IsReadyAt visits.now rule.now self.now)) (IsLeastChild rule.now (IsReadyAt visits.now rule.now self.now)) }
     {
-        for k in over..rule.right.len() {
-            let occ = k as u16 + 1;
-            if self.is_ready_visit(visits, rule, occ) {
+        while let Some(occ) = ready.first() {
+            if occ > 0 && self.is_ready_visit(visits, rule, occ) {
                 return Some(occ);
             }
+            ready.unlist(occ);
         }
         None
-    }
-
-    /// Whether the child has a visit left.
-    fn has_next(&self, visits: &[List<VisitClass>], rule: &FlatRule, occ: u16) -> bool
-        ensures { IsTrue result ↔ IsNextAt visits.now rule.now self.now occ }
-    {
-        self.visits_made(occ) < row_at(visits, rule, occ).len()
-    }
-
-    /// How many children from the first on have no visit left, where so many have none.
-    pub fn over_from(&self, visits: &[List<VisitClass>], rule: &FlatRule, over: usize) -> usize
-        requires few { length rule.now.right < 2 ^ 16 }
-        requires over { AreOver visits.now rule.now self.now over }
-        ensures over { AreOver visits.now rule.now self.now result }
-        ensures stops { result < length rule.now.right → IsNextAt visits.now rule.now self.now (result + 1) }
-    {
-        for k in over..rule.right.len() {
-            let occ = k as u16 + 1;
-            if self.has_next(visits, rule, occ) {
-                return k;
-            }
-        }
-        rule.right.len()
     }
 
     /// The least child that has a visit left, by how many before it have none.
@@ -227,19 +188,19 @@ impl Progress {
         visits: &[List<VisitClass>],
         rule: &FlatRule,
         goals: &[Goal],
-        done: Done,
+        rest: &mut Rest,
     ) -> Option<u16>
-        requires all { AreEvaluated self.now goals.now done.goals }
-        requires stops { (g : Waiting) → slice_get goals.now done.goals ≡ Some g → ¬ HasBit self.now.evaluated.items g.goal }
-        requires few { length rule.now.right < 2 ^ 16 }
-        requires over { AreOver visits.now rule.now self.now done.children }
-        ensures { MatchOption result (Owes visits.now rule.now self.now goals.now → IsNoChild rule.now (IsReadyAt visits.now rule.now self.now))
+        requires rest { IsRest visits.now rule.now self.now goals.now rest.old }
+        requires stops { Stops visits.now rule.now self.now goals.now rest.old }
+        ensures rest { IsRest visits.now rule.now self.now goals.now rest.new }
+        ensures children { rest.new.children ≡ rest.old.children }
+        ensures owed { MatchOption result (Owes visits.now rule.now self.now goals.now → IsNoChild rule.now (IsReadyAt visits.now rule.now self.now))
             (λ k. Owes visits.now rule.now self.now goals.now × IsLeastChild rule.now (IsReadyAt visits.now rule.now self.now) k) }
     {
-        if !self.owes(visits, rule, goals, done.goals) {
+        if !self.owes(visits, rule, goals, rest.goals) {
             return None;
         }
-        self.ready_child(visits, rule, done.children)
+        self.ready_child(visits, rule, &mut rest.ready)
     }
 
     /// The child that is visited because the last visit goes on.
@@ -278,27 +239,26 @@ impl Progress {
         rule: &FlatRule,
         goals: &[Goal],
         ready: Option<Occ>,
-        done: Done,
+        rest: &mut Rest,
     ) -> Result<PlanItem, Memory>
         requires visits { AreAllVisits flat.now.symbols flat.now.rules parts.now.visits }
         requires rule { Contains flat.now.rules rule.now }
         requires goals { AreGoals flat.now.symbols flat.now.rules rule.now goals.now }
         requires follows { Follows parts.now.visits rule.now self.now }
         requires ready { IsLeastOpen self.now goals.now ready }
-        requires all { AreEvaluated self.now goals.now done.goals }
-        requires stops { (g : Waiting) → slice_get goals.now done.goals ≡ Some g → ¬ HasBit self.now.evaluated.items g.goal }
-        requires over { AreOver parts.now.visits rule.now self.now done.children }
-        requires next { done.children < length rule.now.right → IsNextAt parts.now.visits rule.now self.now (done.children + 1) }
-        ensures { IfOk result (IsChosen flat.now.symbols flat.now.rules parts.now.visits rule.now self.now.items.items) }
+        requires rest { IsRest parts.now.visits rule.now self.now goals.now rest.old }
+        requires stops { Stops parts.now.visits rule.now self.now goals.now rest.old }
+        ensures chosen { IfOk result (IsChosen flat.now.symbols flat.now.rules parts.now.visits rule.now self.now.items.items) }
+        ensures rest { IsRest parts.now.visits rule.now self.now goals.now rest.new }
     {
         let visits = parts.visits.as_slice();
         if let Some(goal) = ready {
             return Ok(PlanItem::Eval(goal));
         }
-        if let Some(occ) = self.owed_child(visits, rule, goals, done) {
+        if let Some(occ) = self.owed_child(visits, rule, goals, rest) {
             return self.next_visit(occ);
         }
-        if let Some(occ) = self.last_child(visits, rule, done.children) {
+        if let Some(occ) = self.last_child(visits, rule, rest.children) {
             return self.next_visit(occ);
         }
         Ok(PlanItem::Leave {

@@ -5,9 +5,11 @@ mod bits;
 mod choice;
 mod goals;
 pub mod laws;
+mod listed;
 mod plan;
 mod progress;
 mod queue;
+mod rest;
 mod rows;
 
 pub use plan::sequences;

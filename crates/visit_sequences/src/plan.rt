@@ -8,10 +8,10 @@ ghost use Rattle.flat_grammar.specs.SoundPlan.{IsSound};
 ghost use Rattle.flat_grammar.specs.declared.plan.PlanItem.TheVariants.{Leave};
 ghost use Rattle.visit_sequences.specs.Steps.{place_of};
 
-use crate::choice::Done;
 use crate::goals::goals;
 use crate::progress::Progress;
 use crate::queue::Queue;
+use crate::rest::Rest;
 use crate::rows::row_at;
 use flat_grammar::{Deps, Flat, FlatRule, Parts, Plan, PlanItem, VisitClass};
 use lido_base::{List, Memory};
@@ -55,22 +55,17 @@ fn sequence(
     let last = row_at(parts.visits.as_slice(), rule, 0).len();
     let mut progress = Progress::start(alloc, flat, parts, rule)?;
     let mut queue = Queue::start(alloc, &progress, &goals)?;
-    let mut done = 0;
-    let mut over = 0;
+    let mut rest = Rest::start(alloc, rule)?;
     loop {
-        done = progress.evaluated_from(&goals, done);
-        over = progress.over_from(parts.visits.as_slice(), rule, over);
-        let reached = Done {
-            goals: done,
-            children: over,
-        };
+        rest.pass(&progress, parts.visits.as_slice(), rule, &goals);
         let ready = progress.least_ready(&goals, &mut queue);
-        let item = progress.choose(flat, parts, rule, &goals, ready, reached)?;
+        let item = progress.choose(flat, parts, rule, &goals, ready, &mut rest)?;
         progress.take(flat, parts, rule, item)?;
         if is_end(item, last) {
             return Ok(List::from_vec(progress.into_items()));
         }
         queue.wake(alloc, &progress, &goals, place(item))?;
+        rest.ready.list(place(item))?;
     }
 }
 

@@ -8,6 +8,7 @@ ghost use Rattle.visit_sequences.specs.Steps.{AreFree, AreSeen, Changes, HasBit,
 
 use crate::bits::with;
 use crate::goals::Goal;
+use crate::listed::Listed;
 use crate::progress::{Progress, empty_sets, zeros};
 use flat_grammar::Occ;
 use flat_grammar::bits::is_within;
@@ -32,7 +33,7 @@ pub struct Queue {
     /// For each goal of the list how many of its computation's dependencies, from the first on, were found at hand.
     pub seen: Vec<usize>,
     /// The occurrences at which a free goal may be left to evaluate.
-    pub left: BTreeSet<u16>,
+    pub left: Listed,
 }
 
 /// So many places at which nothing waits.
@@ -64,43 +65,17 @@ impl Queue {
         }
     }
 
-    /// A goal may be left at this occurrence.
-    fn list(&mut self, occ: u16) -> Result<(), Memory>
-        ensures same { OnOk result ((self.new.free ≡ self.old.free) × (self.new.waiting ≡ self.old.waiting) × (self.new.seen ≡ self.old.seen)) }
-        ensures left { OnOk result ((k : ℕ) → IsListed self.old k ⊎ (k ≡ occ) → IsListed self.new k) }
-    {
-        self.left.insert(occ)?;
-        Ok(())
-    }
-
-    /// No goal is left at this occurrence.
-    pub fn unlist(&mut self, occ: u16)
-        requires { IsListed self.old occ }
-        ensures same { (self.new.free ≡ self.old.free) × (self.new.waiting ≡ self.old.waiting) × (self.new.seen ≡ self.old.seen) }
-        ensures left { (k : ℕ) → IsListed self.old k → ¬ (k ≡ occ) → IsListed self.new k }
-        ensures fewer { length self.new.left.keys < length self.old.left.keys }
-    {
-        self.left.remove(&occ);
-    }
-
-    /// The least occurrence at which a goal may be left.
-    pub fn first_listed(&self) -> Option<u16>
-        ensures { MatchOption result ((k : ℕ) → ¬ IsListed self.now k) (λ k. IsListed self.now k × ((j : ℕ) → IsListed self.now j → k ≤ j)) }
-    {
-        self.left.first().copied()
-    }
-
     /// The goal has all that it waits for. There is a set for each occurrence, and a symbol has no more than 128 attributes.
     fn set_free(&mut self, goal: Occ) -> Result<(), Memory>
         ensures waiting { OnOk result (self.new.waiting ≡ self.old.waiting) }
         ensures seen { OnOk result (self.new.seen ≡ self.old.seen) }
         ensures free { OnOk result ((o : Occurrence) → HasBit self.new.free.items o ↔ (HasBit self.old.free.items o ⊎ (o ≡ goal))) }
-        ensures left { OnOk result ((k : ℕ) → IsListed self.old k ⊎ (k ≡ goal.occ) → IsListed self.new k) }
+        ensures left { OnOk result ((k : ℕ) → IsListed self.old.left k ⊎ (k ≡ goal.occ) → IsListed self.new.left k) }
     {
         if goal.attr.0 >= 128 {
             return Err(Memory);
         }
-        self.list(goal.occ)?;
+        self.left.list(goal.occ)?;
         match self.free.get_mut(goal.occ as usize) {
             Some(set) => {
                 *set = with(*set, goal.attr.0 as usize);
@@ -192,7 +167,9 @@ impl Queue {
             free: empty_sets(alloc, count)?,
             waiting: empty_places(alloc, count)?,
             seen: zeros(alloc, goals.len())?,
-            left: BTreeSet::new(alloc),
+            left: Listed {
+                occurrences: BTreeSet::new(alloc),
+            },
         };
         for at in 0..goals.len() {
             queue.look(progress, goals, at)?;

@@ -12,4 +12,4 @@ invariant-loop-occ l = record {
 }
 
 abbrev pub decreases-loop-occ : goal.decreases-loop-occ
-decreases-loop-occ l = length l.queue.left.keys
+decreases-loop-occ l = length l.queue.left.occurrences.keys

@@ -112,5 +112,5 @@ returns-in-None-clause-listed c =
     let old = c.blocked.new.self in
     let new = c.set_free.new.self in
     let g = c.in-Some.goal.now.goal in
-    on_ok-two c.set_free.result ((o : Occ) → HasBit new.free.items o ↔ (HasBit old.free.items o ⊎ (o ≡ g))) ((k : ℕ) → IsListed old k ⊎ (k ≡ g.occ) → IsListed new k) (AreListed p new)
+    on_ok-two c.set_free.result ((o : Occ) → HasBit new.free.items o ↔ (HasBit old.free.items o ⊎ (o ≡ g))) ((k : ℕ) → IsListed old.left k ⊎ (k ≡ g.occ) → IsListed new.left k) (AreListed p new)
     (λ free left. listed-more p old new g free left (same-listed p c.args.self.now old c.blocked.ensures.same.0 c.blocked.ensures.left c.requires.listed)) c.set_free.ensures.free c.set_free.ensures.left

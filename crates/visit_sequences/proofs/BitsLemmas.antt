@@ -1,10 +1,11 @@
 -- Sets of attributes as words: an attribute more, and all that were looked at.
 use Rattle.std.specs.Prelude.{Contains, IsBitSet}
-use Rattle.std.proofs.Common.{List, [], ◌∷◌, take, length, get_or, ◌≡◌, ℕ, ◌+◌, ◌<◌, ◌≤◌, ◌⊎◌, inl, inr, sym, ap, subst, arith, ◌↔◌}
+use Rattle.std.proofs.Common.{List, [], ◌∷◌, ◌++◌, take, length, get_or, ◌≡◌, ℕ, ◌+◌, ◌<◌, ◌≤◌, ◌⊎◌, inl, inr, sym, ap, subst, arith, ◌↔◌}
 use Rattle.std.proofs.lemmas.Bool.{cases_lt}
 use Rattle.std.proofs.lemmas.List.{take_more, take_all}
 use Rattle.std.proofs.lemmas.List.Elements.{Contains-append_left, Contains-push, Contains-push_cases}
 use Rattle.lido_base.specs.declared.ids.AttrId.{AttrId}
+use Rattle.flat_grammar.specs.declared.flat.Occ.{Occ}
 
 -- the elements of a list up to one more place
 pub taken-more : {X : Type 0} (xs : List X) (i : ℕ) (d x : X) → i < length xs → Contains (take i xs) x → Contains (take (i + 1) xs) x
@@ -60,3 +61,7 @@ found-not P i old inv none j = (
     | inr g ↦ (let l = p.1 in let e : j ≡ i = omega (arith, l, g) in absurd (none (subst P e p.2)))
   ]),
 )
+
+-- one more of these attributes of an occurrence
+pub one-more : (old new : List Occ) (x u : Occ) → new ≡ old ++ x ∷ [] → x.occ ≡ u.occ → x.attr ≡ u.attr → Contains new u
+one-more old new x u items e f = subst (λ k. Contains new (record { occ = k; attr = u.attr })) e (subst (λ a. Contains new (record { occ = x.occ; attr = a })) f (subst (λ l. Contains l x) (sym items) (Contains-push old x)))

@@ -1,6 +1,6 @@
 -- What the tests of the progress say of the construction's choice.
 use Rattle.std.specs.Prelude.{All, Contains, slice_get, slice_index, map, IsSome, IsBitSet, ◌↔◌, MatchOption, take, IsTrue, IfOk}
-use Rattle.std.proofs.Common.{◌≡◌, ℕ, zero, suc, ◌<◌, ◌≤◌, ◌+◌, ◌⊎◌, inl, inr, List, [], ◌∷◌, ◌++◌, length, get_or, Option, Some, Result, Ok, Err, refl, arith, ap, sym, subst, ◌∙◌}
+use Rattle.std.proofs.Common.{◌≡◌, ℕ, zero, suc, ◌<◌, ◌≤◌, ◌⊎◌, inl, inr, List, [], ◌∷◌, ◌++◌, length, get_or, Option, Some, Result, Ok, Err, refl, arith, ap, sym, subst, ◌∙◌}
 use Rattle.std.proofs.lemmas.Bool.{cases_lt, cases_eq}
 use Rattle.std.proofs.lemmas.Option.{slice_get_within, slice_get_past, slice_get-get_or}
 use Rattle.std.proofs.lemmas.List.{get_or_past}
@@ -28,7 +28,7 @@ use Rattle.visit_sequences.specs.declared.goals.Goal.{Goal}
 use Rattle.visit_sequences.specs.declared.listed.Listed.{Listed}
 use Rattle.visit_sequences.specs.declared.progress.Progress.{Progress}
 use Rattle.visit_sequences.specs.declared.rest.Rest.{Rest}
-use Rattle.visit_sequences.specs.Steps.{row_of, IsBefore, IsGoal, AreGoals, HasBit, Follows, IsOpen, HasAll, IsListed, IsOfUseFrom, IsReadyAt, IsNextAt, AreListedChildren, AreOver, Changes, IsRest, Owes, IsLeastChild, IsNoChild}
+use Rattle.visit_sequences.specs.Steps.{row_of, IsBefore, IsGoal, AreGoals, HasBit, Follows, IsOpen, HasAll, IsListed, IsOfUseFrom, IsReadyAt, IsNextAt, AreListedChildren, AreOver, IsRest, IsSameBut, Owes, IsLeastChild, IsNoChild}
 use Rattle.visit_sequences.proofs.Classes.{row-there}
 use Rattle.visit_sequences.proofs.Occurrences.{rule-is}
 use Rattle.visit_sequences.proofs.StepLemmas.{row-class, class-row}
@@ -225,27 +225,29 @@ over-stays visits r old new item before after items n over k pos within left = e
 ]
 
 -- only at the place of the item has a child become ready
-pub ready-stays : (visits : List (List VisitClass)) (r : FlatRule) (old new : Progress) (k : ℕ) → Changes old new k → (j : ℕ) → (j ≡ k → ⊥) → IsReadyAt visits r new j → IsReadyAt visits r old j
+pub ready-stays : (visits : List (List VisitClass)) (r : FlatRule) (old new : Progress) (k : ℕ) → IsSameBut old new k → (j : ℕ) → (j ≡ k → ⊥) → IsReadyAt visits r new j → IsReadyAt visits r old j
 ready-stays visits r old new k changes j other (c, at, all, useful) =
-    let same : slice_index new.made.items j ≡ slice_index old.made.items j = changes.made j other in
-    (c, subst (λ n. slice_get (row_of visits r j) n ≡ Some c) same at,
-    All-weaker (λ (a : AttrId). HasBit new.evaluated.items (record { occ = j; attr = a })) (λ (a : AttrId). HasBit old.evaluated.items (record { occ = j; attr = a }))
-      (λ a bit. elim (changes.evaluated_there (record { occ = j; attr = a }) bit) [ inl b ↦ b | inr e ↦ absurd (other e) ]) c.inherited all,
-    subst (λ n. IsOfUseFrom (row_of visits r j) n) same useful)
+    let same : slice_index new.made.items j ≡ slice_index old.made.items j = changes.made j other in (
+      c,
+      subst (λ n. slice_get (row_of visits r j) n ≡ Some c) same at,
+      All-weaker (λ (a : AttrId). HasBit new.evaluated.items (record { occ = j; attr = a })) (λ (a : AttrId). HasBit old.evaluated.items (record { occ = j; attr = a }))
+          (λ a bit. elim (changes.evaluated (record { occ = j; attr = a }) bit) [ inl b ↦ b | inr e ↦ absurd (other e) ]) c.inherited all,
+      subst (λ n. IsOfUseFrom (row_of visits r j) n) same useful,
+    )
 
-pub listed-stay : (visits : List (List VisitClass)) (r : FlatRule) (old new : Progress) (k : ℕ) (before after : Listed) → Changes old new k → ((j : ℕ) → IsListed before j ⊎ (j ≡ k) → IsListed after j) → AreListedChildren visits r old before → AreListedChildren visits r new after
+pub listed-stay : (visits : List (List VisitClass)) (r : FlatRule) (old new : Progress) (k : ℕ) (before after : Listed) → IsSameBut old new k → ((j : ℕ) → IsListed before j ⊎ (j ≡ k) → IsListed after j) → AreListedChildren visits r old before → AreListedChildren visits r new after
 listed-stay visits r old new k before after changes more are j pos ready = elim (cases_eq j k) [
   | inl e ↦ more j (inr e)
   | inr n ↦ more j (inl (are j pos (ready-stays visits r old new k changes j n ready)))
 ]
 
 -- what is left stays so behind one more item, where its place is listed
-pub rest-stays : (visits : List (List VisitClass)) (r : FlatRule) (goals : List Goal) (old new : Progress) (item : PlanItem) (k : ℕ) (before after : Rest) → Follows visits r old → Follows visits r new → new.items.items ≡ old.items.items ++ item ∷ [] → Changes old new k
+pub rest-stays : (visits : List (List VisitClass)) (r : FlatRule) (goals : List Goal) (old new : Progress) (item : PlanItem) (k : ℕ) (before after : Rest) → Follows visits r old → Follows visits r new → new.items.items ≡ old.items.items ++ item ∷ [] → ((u : Occ) → HasBit old.evaluated.items u → HasBit new.evaluated.items u) → IsSameBut old new k
     → after.goals ≡ before.goals → after.children ≡ before.children → ((j : ℕ) → IsListed before.ready j ⊎ (j ≡ k) → IsListed after.ready j) → IsRest visits r old goals before → IsRest visits r new goals after
-rest-stays visits r goals old new item k before after follows next items changes same_goals same_children listed rest = record {
-  evaluated = λ g m. changes.evaluated g.goal (rest.evaluated g (subst (λ n. Contains (take n goals) g) same_goals m));
+rest-stays visits r goals old new item k before after follows next items grows same same_goals same_children listed rest = record {
+  evaluated = λ g m. grows g.goal (rest.evaluated g (subst (λ n. Contains (take n goals) g) same_goals m));
   over = over-stays visits r old new item follows next items after.children (subst (λ n. AreOver visits r old n) (sym same_children) rest.over);
-  ready = listed-stay visits r old new k before.ready after.ready changes listed rest.ready;
+  ready = listed-stay visits r old new k before.ready after.ready same listed rest.ready;
 }
 
 -- the list is empty where its length is not above 0

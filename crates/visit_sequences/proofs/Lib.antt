@@ -12,3 +12,4 @@ pub mod TakeLemmas
 pub mod ChoiceLemmas
 pub mod MeasureLemmas
 pub mod QueueLemmas
+pub mod OrderLemmas

@@ -1,57 +1,52 @@
 -- How the goals of a rule stand: what the queue keeps as more becomes at hand.
-use Rattle.std.specs.Ordering.{nat_cmp}
-use Rattle.std.specs.BTreeSet.{contains}
-use Rattle.std.specs.Prelude.{Contains, IsTrue, slice_get, slice_index, slice_set, replicate, take, IsBitSet, ◌↔◌, MatchOption, OnOk}
-use Rattle.std.proofs.Common.{◌≡◌, ℕ, ◌<◌, ◌≤◌, ◌+◌, ◌⊎◌, inl, inr, List, [], ◌∷◌, ◌++◌, length, get_or, Option, Some, None, Result, Ok, Err, arith, ap, sym, subst, ◌∙◌}
+use Rattle.std.specs.Ordering.{is_eq}
+use Rattle.std.specs.BTreeMap.{BTreeMap, get}
+use Rattle.std.specs.Prelude.{Contains, slice_get, slice_index, slice_set, replicate, take, IsBitSet, ◌↔◌, MatchOption, OnOk}
+use Rattle.std.proofs.Common.{◌≡◌, ℕ, false, ◌<◌, ◌≤◌, ◌+◌, ◌⊎◌, inl, inr, List, [], ◌∷◌, ◌++◌, length, get_or, Option, Some, None, Result, Ok, Err, refl, arith, ap, sym, subst, ◌∙◌}
 use Rattle.std.proofs.lemmas.Bool.{cases_lt, cases_eq}
-use Rattle.std.proofs.lemmas.Option.{slice_get_cases, slice_get_within, slice_get-get_or, get_or_from_slice_get}
+use Rattle.std.proofs.lemmas.Option.{none-some, slice_get_cases}
 use Rattle.std.proofs.lemmas.List.{get_or-set_same, get_or-set_other, length-set, get_or-replicate, length-replicate, get_or_past, take_all}
 use Rattle.std.proofs.lemmas.List.Elements.{Contains-append_left, Contains-push}
 use Rattle.flat_grammar.specs.declared.flat.Occ.{Occ}
 use Rattle.flat_grammar.specs.Cycles.{IsAtMost}
 use Rattle.flat_grammar.proofs.Lists.{held, contains-nil, contains-slice_get, slice_get-contains}
-use Rattle.flat_grammar.proofs.BitsLemmas.{empty-set}
+use Rattle.flat_grammar.proofs.BitsLemmas.{empty-set, is-set}
 use Rattle.visit_sequences.specs.declared.goals.Goal.{Goal}
 use Rattle.visit_sequences.specs.declared.progress.Progress.{Progress}
 use Rattle.visit_sequences.specs.declared.queue.Waiting.{Waiting}
 use Rattle.visit_sequences.specs.declared.queue.Queue.{Queue}
-use Rattle.visit_sequences.specs.Steps.{HasBit, IsLeastOpen, IsOpen, IsFree, Waits, Keeps, AreFree, StandsIn, IsListed, AreListed, Sorts, Changes, IsLeft, AreSeen, HasSeen, HasLeft, AreEvaluated}
+use Rattle.visit_sequences.specs.Steps.{HasBit, IsLeastOpen, IsOpen, IsFree, Waits, Wakes, Keeps, AreFree, IsMissing, StandsIn, IsListed, AreListed, Sorts, Grows, IsLeft, AreSeen, HasSeen, HasLeft, AreEvaluated}
+use Rattle.visit_sequences.specs.Order.{compare_occurrences}
+use Rattle.visit_sequences.proofs.OrderLemmas.{one-or-apart}
 use Rattle.visit_sequences.proofs.BitsLemmas.{taken-cases}
 use Rattle.visit_sequences.proofs.ClosedWalks.{all-from_each}
 
-set-here : {X : Type 0} (xs : List X) (k : ℕ) (x : X) → k < length xs → slice_get (slice_set xs k x) k ≡ Some x
-set-here xs k x h = slice_get-get_or (slice_set xs k x) k x (let l = length-set xs k x in omega (arith, h, l)) ∙ ap Some (get_or-set_same xs k x x h)
+-- the goal waits for this in the map
+abbrev pub WaitsIn : BTreeMap Occ Waiting → Occ → ℕ → Type 0
+WaitsIn m u i = (w : Waiting) × (get compare_occurrences m u ≡ Some w) × Contains w.goals.items i
 
-set-other : {X : Type 0} (xs : List X) (k j : ℕ) (x w : X) → (k ≡ j → ⊥) → slice_get xs j ≡ Some w → slice_get (slice_set xs k x) j ≡ Some w
-set-other xs k j x w n at =
-    let h = slice_get_within xs j w at in
-    slice_get-get_or (slice_set xs k x) j w (let l = length-set xs k x in omega (arith, h, l)) ∙ ap Some (get_or-set_other xs k j x w (λ e. n (sym e)) ∙ get_or_from_slice_get xs j w w at)
+-- those that are taken out, and the others
+pub waits-other : (old new : BTreeMap Occ Waiting) (missing : Occ) → ((u : Occ) → is_eq (compare_occurrences missing u) ≡ false → get compare_occurrences new u ≡ get compare_occurrences old u)
+    → (u : Occ) (i : ℕ) → WaitsIn old u i → (missing ≡ u → ⊥) → WaitsIn new u i
+waits-other old new missing same u i (w, at, c) n = elim (one-or-apart missing u) [ inl e ↦ absurd (n e) | inr a ↦ (w, same u a.1 ∙ at, c) ]
 
--- the goal waits at this place of the list
-abbrev pub WaitsIn : List Waiting → ℕ → ℕ → Type 0
-WaitsIn xs k i = (w : Waiting) × (slice_get xs k ≡ Some w) × Contains w.goals.items i
+pub waited : (m : BTreeMap Occ Waiting) (missing : Occ) (found : Waiting) (i : ℕ) → Some found ≡ get compare_occurrences m missing → WaitsIn m missing i → Contains found.goals.items i
+waited m missing found i is (w, at, c) = subst (λ (x : Waiting). Contains x.goals.items i) (held (sym at ∙ sym is)) c
 
-pub waits-more : (xs : List Waiting) (k : ℕ) (old new : Waiting) (i : ℕ) → slice_get xs k ≡ Some old → new.goals.items ≡ old.goals.items ++ i ∷ [] → (j m : ℕ) → WaitsIn xs j m → WaitsIn (slice_set xs k new) j m
-waits-more xs k old new i at items j m (w, e, c) = elim (cases_eq k j) [
-  | inl same ↦ (
-    new,
-    subst (λ n. slice_get (slice_set xs k new) n ≡ Some new) same (set-here xs k new (slice_get_within xs k old at)),
-    subst (λ l. Contains l m) (sym items) (Contains-append_left old.goals.items (i ∷ []) m (subst (λ (x : Waiting). Contains x.goals.items m) (held (sym e ∙ (ap (λ n. slice_get xs n) (sym same) ∙ at))) c)),
-  )
-  | inr n ↦ (w, set-other xs k j new w n e, c)
+pub none-waits : (m : BTreeMap Occ Waiting) (missing : Occ) (i : ℕ) → None ≡ get compare_occurrences m missing → WaitsIn m missing i → ⊥
+none-waits m missing i is (w, at, c) = none-some w (is ∙ at)
+
+-- one more waits
+pub waits-more : (old mid new : BTreeMap Occ Waiting) (missing : Occ) (goals : List ℕ) (goal : ℕ) (w : Waiting) → w.goals.items ≡ goals ++ goal ∷ [] → ((u : Occ) (i : ℕ) → WaitsIn old u i → (missing ≡ u → ⊥) → WaitsIn mid u i)
+    → ((i : ℕ) → WaitsIn old missing i → Contains goals i) → get compare_occurrences new missing ≡ Some w → ((u : Occ) → is_eq (compare_occurrences missing u) ≡ false → get compare_occurrences new u ≡ get compare_occurrences mid u)
+    → (u : Occ) (i : ℕ) → WaitsIn old u i → WaitsIn new u i
+waits-more old mid new missing goals goal w items others here found same u i waits = elim (one-or-apart missing u) [
+  | inl e ↦ subst (λ v. WaitsIn new v i) e (w, found, subst (λ l. Contains l i) (sym items) (Contains-append_left goals (goal ∷ []) i (here i (subst (λ v. WaitsIn old v i) (sym e) waits))))
+  | inr a ↦ waits-other mid new missing same u i (others u i waits a.0) a.0
 ]
 
-pub waits-here : (xs : List Waiting) (k : ℕ) (old new : Waiting) (i : ℕ) → slice_get xs k ≡ Some old → new.goals.items ≡ old.goals.items ++ i ∷ [] → WaitsIn (slice_set xs k new) k i
-waits-here xs k old new i at items = (new, set-here xs k new (slice_get_within xs k old at), subst (λ l. Contains l i) (sym items) (Contains-push old.goals.items i))
-
-pub waits-other : (xs : List Waiting) (k : ℕ) (new : Waiting) (j m : ℕ) → WaitsIn xs j m → (k ≡ j → ⊥) → WaitsIn (slice_set xs k new) j m
-waits-other xs k new j m (w, e, c) n = (w, set-other xs k j new w n e, c)
-
-pub waited : (xs : List Waiting) (k : ℕ) (old : Waiting) (i : ℕ) → slice_get xs k ≡ Some old → WaitsIn xs k i → Contains old.goals.items i
-waited xs k old i at (w, e, c) = subst (λ (x : Waiting). Contains x.goals.items i) (held (sym e ∙ at)) c
-
-pub none-waits : (xs : List Waiting) (k i : ℕ) → length xs ≤ k → WaitsIn xs k i → ⊥
-none-waits xs k i past (w, e, c) = let h = slice_get_within xs k w e in omega (arith, h, past)
+pub waits-here : (new : BTreeMap Occ Waiting) (missing : Occ) (goals : List ℕ) (goal : ℕ) (w : Waiting) → w.goals.items ≡ goals ++ goal ∷ [] → get compare_occurrences new missing ≡ Some w → WaitsIn new missing goal
+waits-here new missing goals goal w items found = (w, found, subst (λ l. Contains l goal) (sym items) (Contains-push goals goal))
 
 -- one more goal is free
 pub free-more : (p : Progress) (goals : List Goal) (old new : Queue) (g : Goal) → Contains goals g → IsFree p g → ((o : Occ) → HasBit new.free.items o ↔ (HasBit old.free.items o ⊎ (o ≡ g.goal))) → AreFree p goals old → AreFree p goals new
@@ -59,26 +54,71 @@ free-more p goals old new g m free step are o bit = elim ((step o).0 bit) [ inl 
 
 pub still-stands : (p : Progress) (old new : Queue) (i : ℕ) (g : Goal) → Keeps old new → StandsIn p old i g → StandsIn p new i g
 still-stands p old new i g keeps (inl b) = inl (keeps.free g.goal b)
-still-stands p old new i g keeps (inr (k, w, b)) = inr (k, keeps.waits k i w, b)
+still-stands p old new i g keeps (inr (u, w, b)) = inr (u, keeps.waits u i w, b)
 
--- those taken from the place are to be looked at, and the others stand as they did
-pub woken-stands : (p q : Progress) (goals : List Goal) (old new : Queue) (k : ℕ) (woken : List ℕ) → Sorts p goals old → Changes p q k → new.free ≡ old.free → ((j i : ℕ) → Waits old j i → (k ≡ j → ⊥) → Waits new j i)
-    → ((i : ℕ) → Waits old k i → Contains woken i) → (i : ℕ) (g : Goal) → slice_get goals i ≡ Some g → StandsIn q new i g ⊎ Contains woken i
-woken-stands p q goals old new k woken sorts changes same others here i g at = go (sorts.stands i g at)
+-- the goal stands somewhere, or it waits for what is given and was not woken yet
+abbrev pub IsLate : Progress → Queue → List Occ → ℕ → ℕ → Goal → Type 0
+IsLate p q given n i g = StandsIn p q i g ⊎ ((u : Occ) × Contains given u × (Contains (take n given) u → ⊥) × Waits q u i)
+
+pub late-first : (p new : Progress) (goals : List Goal) (q : Queue) (given : List Occ) → Sorts p goals q → Grows p new (λ u. Contains given u) → (i : ℕ) (g : Goal) → slice_get goals i ≡ Some g → IsLate new q given 0 i g
+late-first p new goals q given sorts grows i g at = go (sorts.stands i g at)
   where
-    go : StandsIn p old i g → StandsIn q new i g ⊎ Contains woken i
-    go (inl b) = inl (inl (subst (λ f. HasBit f.items g.goal) (sym same) b))
-    go (inr (j, w, blocked)) = elim (cases_eq k j) [
-      | inl e ↦ inr (here i (subst (λ n. Waits old n i) (sym e) w))
-      | inr n ↦ inl (inr (j, others j i w n, (λ f. blocked (λ u need e. elim (changes.there u (f u need e)) [ inl b ↦ b | inr z ↦ absurd (n (sym z ∙ e)) ]))))
+    go : StandsIn p q i g → IsLate new q given 0 i g
+    go (inl b) = inl (inl b)
+    go (inr (u, w, (need, lacks))) = elim (is-set (slice_index new.at_hand.items u.occ) u.attr.0) [
+      | inl b ↦ (elim (grows.given u b) [ inl c ↦ absurd (lacks c) | inr m ↦ inr (u, m, (λ t. contains-nil u t), w) ])
+      | inr n ↦ inl (inr (u, w, (need, n)))
     ]
 
-pub woken-free : (p q : Progress) (goals : List Goal) (old new : Queue) (k : ℕ) → Sorts p goals old → Changes p q k → new.free ≡ old.free → AreFree q goals new
-woken-free p q goals old new k sorts changes same o bit =
-    let (g, m, e, f) = sorts.free o (subst (λ s. HasBit s.items o) same bit) in (g, m, e, (λ u need. changes.stays u (f u need)))
+pub late-next : (p : Progress) (goals : List Goal) (old new : Queue) (given : List Occ) (n : ℕ) (d : Occ) → n < length given → Wakes p goals old new (get_or given n d)
+    → (i : ℕ) (g : Goal) → slice_get goals i ≡ Some g → IsLate p old given n i g → IsLate p new given (n + 1) i g
+late-next p goals old new given n d inside wakes i g at late = go late
+  where
+    go : IsLate p old given n i g → IsLate p new given (n + 1) i g
+    go (inl (inl b)) = inl (inl (wakes.free g.goal b))
+    go (inl (inr (u, w, missing))) = elim (one-or-apart (get_or given n d) u) [
+      | inl e ↦ inl (wakes.here i g at (subst (λ v. Waits old v i) (sym e) w))
+      | inr a ↦ inl (inr (u, wakes.others u i w a.0, missing))
+    ]
+    go (inr (u, m, not_yet, w)) = elim (one-or-apart (get_or given n d) u) [
+      | inl e ↦ inl (wakes.here i g at (subst (λ v. Waits old v i) (sym e) w))
+      | inr a ↦ inr (u, m, (λ t. elim (taken-cases given n d u inside t) [ inl before ↦ not_yet before | inr e ↦ a.0 e ]), wakes.others u i w a.0)
+    ]
+
+pub late-last : (p : Progress) (q : Queue) (given : List Occ) (n i : ℕ) (g : Goal) → length given ≤ n → IsLate p q given n i g → StandsIn p q i g
+late-last p q given n i g over (inl s) = s
+late-last p q given n i g over (inr (u, m, not_yet, w)) = absurd (not_yet (subst (λ l. Contains l u) (sym (take_all n given over)) m))
+
+pub grown-free : (p new : Progress) (goals : List Goal) (q : Queue) (gives : Occ → Type 0) → Sorts p goals q → Grows p new gives → AreFree new goals q
+grown-free p new goals q gives sorts grows o bit = let (g, m, e, f) = sorts.free o bit in (g, m, e, (λ u need. grows.stays u (f u need)))
+
+pub grown-seen : (p new : Progress) (goals : List Goal) (q : Queue) (gives : Occ → Type 0) → Sorts p goals q → Grows p new gives → HasSeen new goals q
+grown-seen p new goals q gives sorts grows i g at u m = grows.stays u (sorts.seen i g at u m)
+
+pub grown-listed : (p new : Progress) (goals : List Goal) (q : Queue) (gives : Occ → Type 0) → Sorts p goals q → Grows p new gives → AreListed new q
+grown-listed p new goals q gives sorts grows o (b, n) = sorts.listed o (b, (λ e. n (grows.evaluated o e)))
 
 empty-index : (n k : ℕ) → slice_index (replicate n 0) k ≡ 0
 empty-index n k = elim (cases_lt k n) [ inl l ↦ get_or-replicate n k 0 0 l | inr g ↦ get_or_past (replicate n 0) k 0 (let e = length-replicate {A = ℕ} n 0 in omega (arith, e, g)) ]
+
+none-past : (xs : List Occ) (n : ℕ) → slice_get xs n ≡ None → length xs ≤ n
+none-past xs n e = go (slice_get_cases xs n).1
+  where
+    go : ((x : Occ) × (n < length xs) × (slice_get xs n ≡ Some x) × (get_or xs n x ≡ x)) ⊎ ((length xs ≤ n) × (slice_get xs n ≡ None)) → length xs ≤ n
+    go (inl (x, l, at, f)) = absurd (none-some x (sym e ∙ at))
+    go (inr (past, f)) = past
+
+-- where all of the own occurrence is at hand, the first dependency that isn't is missing
+pub missing-or-free : (p : Progress) (g : Goal) (n : ℕ) → ((j : ℕ) → IsBitSet g.same j → IsBitSet (slice_index p.at_hand.items g.goal.occ) j) → AreSeen p g n → ((u : Occ) → slice_get g.direct.items n ≡ Some u → HasBit p.at_hand.items u → ⊥)
+    → MatchOption (slice_get g.direct.items n) (IsFree p g) (λ u. IsMissing p g u)
+missing-or-free p g n own seen stops = go (slice_get g.direct.items n) refl
+  where
+    go : (found : Option Occ) → slice_get g.direct.items n ≡ found → MatchOption found (IsFree p g) (λ u. IsMissing p g u)
+    go (Some u) e = (inr (contains-slice_get g.direct.items n u e), stops u e)
+    go None e = λ u need. elim need [
+      | inl h ↦ subst (λ j. HasBit p.at_hand.items (record { occ = j; attr = u.attr })) (sym h.0) (own u.attr.0 h.1)
+      | inr m ↦ seen u (subst (λ l. Contains l u) (sym (take_all n g.direct.items (none-past g.direct.items n e))) m)
+    ]
 
 -- nothing is free in empty sets
 pub none-free : (p : Progress) (goals : List Goal) (q : Queue) (n : ℕ) → q.free.items ≡ replicate n 0 → AreFree p goals q
@@ -97,7 +137,7 @@ open-left p goals q sorts g m opens = let (i, at) = slice_get-contains goals g m
   where
     go : (i : ℕ) → StandsIn p q i g → IsLeft p q g.goal
     go i (inl b) = (b, opens.0)
-    go i (inr (k, w, blocked)) = absurd (blocked (λ u need e. open-free p g opens u need))
+    go i (inr (u, w, (need, lacks))) = absurd (lacks (open-free p g opens u need))
 
 -- the least that is free and not evaluated is the least that is open
 pub least-open : (p : Progress) (goals : List Goal) (q : Queue) → Sorts p goals q → (found : Option Occ)
@@ -131,16 +171,6 @@ looked-next p goals old new woken n d inside keeps before here i g at m = elim (
   | inr e ↦ subst (λ k. StandsIn p new k g) e (here g (ap (λ k. slice_get goals k) e ∙ at))
 ]
 
--- all were looked at
-pub all-stand : (p : Progress) (goals : List Goal) (q : Queue) (woken : List ℕ) (n : ℕ) → length woken ≤ n → AreFree p goals q → HasSeen p goals q → AreListed p q → ((i : ℕ) (g : Goal) → slice_get goals i ≡ Some g → StandsIn p q i g ⊎ Contains woken i)
-    → ((i : ℕ) (g : Goal) → slice_get goals i ≡ Some g → Contains (take n woken) i → StandsIn p q i g) → Sorts p goals q
-all-stand p goals q woken n over free seen listed others looked = record {
-  free = free;
-  seen = seen;
-  listed = listed;
-  stands = λ i g at. elim (others i g at) [ inl s ↦ s | inr m ↦ looked i g at (subst (λ l. Contains l i) (sym (take_all n woken over)) m) ];
-}
-
 pub on_ok-two : {A E : Type 0} (result : Result A E) (P Q R : Type 0) → (P → Q → R) → OnOk result P → OnOk result Q → OnOk result R
 on_ok-two (Ok a) P Q R f p q = f p q
 on_ok-two (Err e) P Q R f p q = p
@@ -148,19 +178,16 @@ on_ok-two (Err e) P Q R f p q = p
 pub keeps-more : (old new : Queue) (o : Occ) → new.waiting ≡ old.waiting → ((u : Occ) → HasBit new.free.items u ↔ (HasBit old.free.items u ⊎ (u ≡ o))) → Keeps old new
 keeps-more old new o same step = record {
   free = λ u b. (step u).1 (inl b);
-  waits = λ k i m. subst (λ v. WaitsIn v.items k i) (sym same) m;
+  waits = λ u i m. subst (λ v. WaitsIn v u i) (sym same) m;
 }
 
 pub keeps-same : (old mid new : Queue) → (mid.free ≡ old.free) × (mid.waiting ≡ old.waiting) → Keeps mid new → Keeps old new
 keeps-same old mid new (free, waiting) keeps = record {
   free = λ u b. keeps.free u (subst (λ f. HasBit f.items u) (sym free) b);
-  waits = λ k i m. keeps.waits k i (subst (λ v. WaitsIn v.items k i) (sym waiting) m);
+  waits = λ u i m. keeps.waits u i (subst (λ v. WaitsIn v u i) (sym waiting) m);
 }
 
--- what was counted is still at hand
-pub woken-seen : (p q : Progress) (goals : List Goal) (old new : Queue) (k : ℕ) → Sorts p goals old → Changes p q k → new.seen ≡ old.seen → HasSeen q goals new
-woken-seen p q goals old new k sorts changes same i g at u m = changes.stays u (sorts.seen i g at u (subst (λ s. Contains (take (slice_index s.items i) g.direct.items) u) same m))
-
+-- nothing is counted in empty rows
 pub none-seen : (p : Progress) (goals : List Goal) (q : Queue) (n : ℕ) → q.seen.items ≡ replicate n 0 → HasSeen p goals q
 none-seen p goals q n e i g at u m = absurd (contains-nil u (subst (λ k. Contains (take k g.direct.items) u) (ap (λ (l : List ℕ). slice_index l i) e ∙ none) m))
   where
@@ -200,9 +227,6 @@ left-has p goals n all (g, m, left) = elim (cases_lt n (length goals)) [ inl l �
 pub same-listed : (p : Progress) (old new : Queue) → new.free ≡ old.free → new.left ≡ old.left → AreListed p old → AreListed p new
 same-listed p old new free left are o (b, n) = subst (λ s. IsListed s o.occ) (sym left) (are o ((subst (λ f. HasBit f.items o) free b), n))
 
-pub woken-listed : (p q : Progress) (goals : List Goal) (old new : Queue) (k : ℕ) → Sorts p goals old → Changes p q k → new.free ≡ old.free → new.left ≡ old.left → AreListed q new
-woken-listed p q goals old new k sorts changes free left = same-listed q old new free left (λ o (b, n). sorts.listed o (b, (λ e. n (changes.evaluated o e))))
-
 -- nothing is left in empty sets
 pub none-listed : (p : Progress) (q : Queue) (n : ℕ) → q.free.items ≡ replicate n 0 → AreListed p q
 none-listed p q n e o (b, left) = absurd (empty-set o.attr.0 (subst (λ b. IsBitSet b o.attr.0) (empty-index n o.occ) (subst (λ (l : List ℕ). HasBit l o) e b)))
@@ -222,4 +246,4 @@ sorts-same p goals old new (free, waiting, seen) listed sorts = record {
   where
     stands : (i : ℕ) (g : Goal) → StandsIn p old i g → StandsIn p new i g
     stands i g (inl b) = inl (subst (λ f. HasBit f.items g.goal) (sym free) b)
-    stands i g (inr (k, w, b)) = inr (k, subst (λ v. WaitsIn v.items k i) (sym waiting) w, b)
+    stands i g (inr (u, w, b)) = inr (u, subst (λ v. WaitsIn v u i) (sym waiting) w, b)

@@ -1,6 +1,7 @@
 -- What the construction keeps of a rule: its goals with what they wait for, and how far the items have come.
 use Rattle.std.specs.Prelude.{◌≡◌, ◌↔◌, ◌⊎◌, ◌+◌, ℕ, suc, ◌<◌, ◌≤◌, List, [], map, length, Option, Some, MatchOption, slice_get, slice_index, option_and_then, unwrap_or, All, Contains, take, IsBitSet, IsTrue}
 use Rattle.std.specs.Ordering.{nat_cmp}
+use Rattle.std.specs.BTreeMap.{get}
 use Rattle.std.specs.BTreeSet.{contains}
 use Rattle.lido_base.specs.declared.ids.SymId.{SymId}
 use Rattle.lido_base.specs.declared.ids.AttrId.{AttrId}
@@ -21,6 +22,7 @@ use Rattle.visit_sequences.specs.declared.progress.Progress.{Progress}
 use Rattle.visit_sequences.specs.declared.queue.Waiting.{Waiting}
 use Rattle.visit_sequences.specs.declared.queue.Queue.{Queue}
 use Rattle.visit_sequences.specs.declared.rest.Rest.{Rest}
+use Rattle.visit_sequences.specs.Order.{compare_occurrences}
 
 -- the visits of the symbol at an occurrence, none where there is no symbol
 abbrev pub row_of : List (List VisitClass) → FlatRule → ℕ → List VisitClass
@@ -169,26 +171,32 @@ Needs g u = ((u.occ ≡ g.goal.occ) × IsBitSet g.same u.attr.0) ⊎ Contains g.
 abbrev pub IsFree : Progress → Goal → Type 0
 IsFree p g = (u : Occ) → Needs g u → HasBit p.at_hand.items u
 
--- not all that the goal waits for at this occurrence is at hand
-abbrev pub IsBlockedAt : Progress → Goal → ℕ → Type 0
-IsBlockedAt p g k = ((u : Occ) → Needs g u → u.occ ≡ k → HasBit p.at_hand.items u) → ⊥
+-- the goal waits for this, and it is not at hand
+abbrev pub IsMissing : Progress → Goal → Occ → Type 0
+IsMissing p g u = Needs g u × ¬ HasBit p.at_hand.items u
 
--- the goal at this place of the list waits at the occurrence
-abbrev pub Waits : Queue → ℕ → ℕ → Type 0
-Waits q k i = (w : Waiting) × (slice_get q.waiting.items k ≡ Some w) × Contains w.goals.items i
+-- the goal at this place of the list waits for this
+abbrev pub Waits : Queue → Occ → ℕ → Type 0
+Waits q u i = (w : Waiting) × (get compare_occurrences q.waiting u ≡ Some w) × Contains w.goals.items i
 
 -- all that is free or waits still does
 pub record Keeps (old new : Queue) : Type 0 where
   pub free : (o : Occ) → HasBit old.free.items o → HasBit new.free.items o
-  pub waits : (k i : ℕ) → Waits old k i → Waits new k i
+  pub waits : (u : Occ) (i : ℕ) → Waits old u i → Waits new u i
 
 -- the goals that are free have all that they wait for
 abbrev pub AreFree : Progress → List Goal → Queue → Type 0
 AreFree p goals q = (o : Occ) → HasBit q.free.items o → (g : Goal) × Contains goals g × (g.goal ≡ o) × IsFree p g
 
--- the goal is free, or it waits at an occurrence where something is not at hand
+-- the goal is free, or it waits for something that is missing
 abbrev pub StandsIn : Progress → Queue → ℕ → Goal → Type 0
-StandsIn p q i g = HasBit q.free.items g.goal ⊎ ((k : ℕ) × Waits q k i × IsBlockedAt p g k)
+StandsIn p q i g = HasBit q.free.items g.goal ⊎ ((u : Occ) × Waits q u i × IsMissing p g u)
+
+-- those that waited for this stand somewhere, and all others as they did
+pub record Wakes (p : Progress) (goals : List Goal) (old new : Queue) (missing : Occ) : Type 0 where
+  pub free : (o : Occ) → HasBit old.free.items o → HasBit new.free.items o
+  pub others : (u : Occ) (i : ℕ) → Waits old u i → ¬ (missing ≡ u) → Waits new u i
+  pub here : (i : ℕ) (g : Goal) → slice_get goals i ≡ Some g → Waits old missing i → StandsIn p new i g
 
 -- so many of the goal's dependencies are at hand, from the first on
 abbrev pub AreSeen : Progress → Goal → ℕ → Type 0
@@ -213,12 +221,15 @@ pub record Sorts (p : Progress) (goals : List Goal) (q : Queue) : Type 0 where
   pub stands : (i : ℕ) (g : Goal) → slice_get goals i ≡ Some g → StandsIn p q i g
   pub listed : AreListed p q
 
--- what is evaluated or at hand stays; more is evaluated or at hand, and visits are made, only at this occurrence
-pub record Changes (old new : Progress) (k : ℕ) : Type 0 where
+-- what is evaluated or at hand stays, and only what the item gives is at hand beside it
+pub record Grows (old new : Progress) (gives : Occ → Type 0) : Type 0 where
   pub evaluated : (u : Occ) → HasBit old.evaluated.items u → HasBit new.evaluated.items u
-  pub evaluated_there : (u : Occ) → HasBit new.evaluated.items u → HasBit old.evaluated.items u ⊎ (u.occ ≡ k)
   pub stays : (u : Occ) → HasBit old.at_hand.items u → HasBit new.at_hand.items u
-  pub there : (u : Occ) → HasBit new.at_hand.items u → HasBit old.at_hand.items u ⊎ (u.occ ≡ k)
+  pub given : (u : Occ) → HasBit new.at_hand.items u → HasBit old.at_hand.items u ⊎ gives u
+
+-- at the other occurrences no more is evaluated, and no visit is made
+pub record IsSameBut (old new : Progress) (k : ℕ) : Type 0 where
+  pub evaluated : (u : Occ) → HasBit new.evaluated.items u → HasBit old.evaluated.items u ⊎ (u.occ ≡ k)
   pub made : (j : ℕ) → ¬ (j ≡ k) → slice_index new.made.items j ≡ slice_index old.made.items j
 
 -- the occurrence that an item is about
@@ -226,3 +237,9 @@ abbrev pub place_of : PlanItem → ℕ
 place_of (Eval o) = o.occ
 place_of (Visit k v) = k
 place_of (Leave v) = 0
+
+-- what an item gives: the goal, what passes up from the child, or what passes down in the next visit of the left side
+abbrev pub Gives : List (List VisitClass) → FlatRule → PlanItem → Occ → Type 0
+Gives visits r (Eval o) u = u ≡ o
+Gives visits r (Visit k v) u = (u.occ ≡ k) × PassesIn (λ c. c.synthesized) (row_of visits r k) v u.attr
+Gives visits r (Leave v) u = (u.occ ≡ 0) × PassesIn (λ c. c.inherited) (row_of visits r 0) (v + 1) u.attr

@@ -1,7 +1,8 @@
 //! Sets of attributes as words: what may be too large is left out.
-ghost use Rattle.std.specs.Prelude.{◌≡◌, ◌<◌, ◌↔◌, ◌⊎◌, ℕ, IsTrue, IsBitSet, Contains};
+ghost use Rattle.std.specs.Prelude.{◌≡◌, ◌<◌, ◌↔◌, ◌⊎◌, ℕ, IsBitSet, Contains, MatchOption};
 ghost use Rattle.lido_base.specs.declared.ids.AttrId.{AttrId as Attribute};
 
+use flat_grammar::bits::has;
 use lido_base::AttrId;
 
 /// The set with one more number, if it is below 128.
@@ -20,4 +21,20 @@ pub fn members(attrs: &[AttrId]) -> u128
         set = with(set, attr.0 as usize);
     }
     set
+}
+
+/// The least number that is in the one set and not in the other.
+pub fn least_new(set: u128, old: u128) -> Option<u16>
+    ensures { MatchOption result ((j : ℕ) → IsBitSet set j → IsBitSet old j)
+        (λ k. (k < 128) × IsBitSet set k × ¬ IsBitSet old k × ((j : ℕ) → j < k → IsBitSet set j → IsBitSet old j)) }
+{
+    if set == old {
+        return None;
+    }
+    for k in 0..128u16 {
+        if has(set, k as usize) && !has(old, k as usize) {
+            return Some(k);
+        }
+    }
+    None
 }

@@ -8,31 +8,15 @@ ghost use Rattle.flat_grammar.specs.declared.plan.PlanItem.TheVariants.{Visit};
 ghost use Rattle.visit_sequences.specs.declared.goals.Goal.{Goal as Waiting};
 ghost use Rattle.visit_sequences.specs.Steps.{AreEvaluated, AreGoals, AreListed, AreListedChildren, AreOver, Follows, HasBit, HasLeft, IsLeastChild, IsLeastOpen, IsLeft, IsNextAt, IsNoChild, IsOfUseFrom, IsReadyAt, IsRest, Owes, OwesClass, Sorts, Stops, row_of};
 
+use crate::bits::least_new;
 use crate::goals::Goal;
-use crate::progress::Progress;
 use crate::listed::Listed;
+use crate::progress::Progress;
 use crate::queue::Queue;
 use crate::rest::Rest;
 use crate::rows::row_at;
-use flat_grammar::bits::has;
 use flat_grammar::{Flat, FlatRule, Occ, Parts, PlanItem, VisitClass};
 use lido_base::{AttrId, List, Memory};
-
-/// The least number that is in the one set and not in the other.
-fn least_new(set: u128, old: u128) -> Option<u16>
-    ensures { MatchOption result ((j : ℕ) → IsBitSet set j → IsBitSet old j)
-        (λ k. (k < 128) × IsBitSet set k × ¬ IsBitSet old k × ((j : ℕ) → j < k → IsBitSet set j → IsBitSet old j)) }
-{
-    if set == old {
-        return None;
-    }
-    for k in 0..128u16 {
-        if has(set, k as usize) && !has(old, k as usize) {
-            return Some(k);
-        }
-    }
-    None
-}
 
 /// A visit's number, if it is one of 16 bits. A symbol has no more visits than attributes, and one at least.
 fn number(visit: usize) -> Result<u16, Memory>

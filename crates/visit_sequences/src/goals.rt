@@ -23,6 +23,15 @@ pub struct Goal {
     pub direct: Vec<Occ>,
 }
 
+impl Goal {
+    /// What the goal's computation depends on, by its place in the list.
+    pub fn dependency(&self, at: usize) -> Option<Occ>
+        ensures { result ≡ slice_get self.now.direct.items at }
+    {
+        self.direct.as_slice().get(at).copied()
+    }
+}
+
 /// The attributes that come before this one by the rows of induced dependencies.
 fn induced(rows: &[u128], b: AttrId) -> u128
     ensures { (a : Attribute) → IsBitSet result a.0 ↔ ((a.0 < 128) × (row : ℕ) × (slice_get rows.now a.0 ≡ Some row) × IsBitSet row b.0) }

@@ -3,6 +3,7 @@
 
 mod bits;
 mod choice;
+mod given;
 mod goals;
 pub mod laws;
 mod listed;

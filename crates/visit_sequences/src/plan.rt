@@ -8,6 +8,7 @@ ghost use Rattle.flat_grammar.specs.SoundPlan.{IsSound};
 ghost use Rattle.flat_grammar.specs.declared.plan.PlanItem.TheVariants.{Leave};
 ghost use Rattle.visit_sequences.specs.Steps.{place_of};
 
+use crate::given::given;
 use crate::goals::goals;
 use crate::progress::Progress;
 use crate::queue::Queue;
@@ -64,7 +65,8 @@ fn sequence(
         if is_end(item, last) {
             return Ok(List::from_vec(progress.into_items()));
         }
-        queue.wake(alloc, &progress, &goals, place(item))?;
+        let given = given(alloc, parts.visits.as_slice(), rule, item)?;
+        queue.wake(alloc, &progress, &goals, &given)?;
         rest.ready.list(place(item))?;
     }
 }

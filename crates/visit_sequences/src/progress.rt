@@ -3,7 +3,7 @@ ghost use Rattle.std.specs.Prelude.{◌≡◌, ◌↔◌, ◌⊎◌, ◌++◌, �
 ghost use Rattle.lido_base.specs.declared.ids.AttrId.{AttrId as Attribute};
 ghost use Rattle.flat_grammar.specs.Construction.{IsChosen};
 ghost use Rattle.flat_grammar.specs.Partition.{AreAllVisits};
-ghost use Rattle.visit_sequences.specs.Steps.{place_of, Adds, Changes, Evaluates, Follows, HasBit, HasBitsOf, Passes, row_of};
+ghost use Rattle.visit_sequences.specs.Steps.{place_of, Adds, Evaluates, Follows, Gives, Grows, HasBit, HasBitsOf, IsSameBut, Passes, PassesIn, row_of};
 
 use crate::bits::{members, with};
 use crate::rows::row_at;
@@ -50,30 +50,44 @@ fn add(sets: &mut Vec<u128>, k: usize, more: u128)
     }
 }
 
+/// What is inherited in this visit.
+pub fn inherited_in<'a>(row: &'a [VisitClass], visit: usize) -> &'a [AttrId]
+    ensures { (a : Attribute) → Contains result.now a ↔ PassesIn (λ c. c.inherited) row.now visit a }
+{
+    if visit == 0 {
+        return &[];
+    }
+    match row.get(visit - 1) {
+        Some(class) => class.inherited.as_slice(),
+        None => &[],
+    }
+}
+
+/// What is synthesized in this visit.
+pub fn synthesized_in<'a>(row: &'a [VisitClass], visit: usize) -> &'a [AttrId]
+    ensures { (a : Attribute) → Contains result.now a ↔ PassesIn (λ c. c.synthesized) row.now visit a }
+{
+    if visit == 0 {
+        return &[];
+    }
+    match row.get(visit - 1) {
+        Some(class) => class.synthesized.as_slice(),
+        None => &[],
+    }
+}
+
 /// What is inherited in this visit, by numbers.
 fn inherited(row: &[VisitClass], visit: usize) -> u128
     ensures { HasBitsOf (λ c. c.inherited) row.now visit result }
 {
-    if visit == 0 {
-        return 0;
-    }
-    match row.get(visit - 1) {
-        Some(class) => members(class.inherited.as_slice()),
-        None => 0,
-    }
+    members(inherited_in(row, visit))
 }
 
 /// What is synthesized in this visit, by numbers.
 fn synthesized(row: &[VisitClass], visit: usize) -> u128
     ensures { HasBitsOf (λ c. c.synthesized) row.now visit result }
 {
-    if visit == 0 {
-        return 0;
-    }
-    match row.get(visit - 1) {
-        Some(class) => members(class.synthesized.as_slice()),
-        None => 0,
-    }
+    members(synthesized_in(row, visit))
 }
 
 impl Progress {
@@ -212,7 +226,8 @@ impl Progress {
         requires chosen { IsChosen flat.now.symbols flat.now.rules parts.now.visits rule.now self.old.items.items item }
         ensures items { OnOk result (self.new.items.items ≡ self.old.items.items ++ item ∷ []) }
         ensures follows { OnOk result (Follows parts.now.visits rule.now self.new) }
-        ensures changes { OnOk result (Changes self.old self.new (place_of item)) }
+        ensures grows { OnOk result (Grows self.old self.new (Gives parts.now.visits rule.now item)) }
+        ensures others { OnOk result (IsSameBut self.old self.new (place_of item)) }
     {
         self.items.push(item)?;
         let visits = parts.visits.as_slice();

@@ -4,20 +4,18 @@ ghost use Rattle.flat_grammar.specs.declared.flat.Occ.{Occ as Occurrence};
 ghost use Rattle.flat_grammar.specs.Cycles.{IsAtMost};
 ghost use Rattle.visit_sequences.specs.declared.goals.Goal.{Goal as Waiter};
 ghost use Rattle.visit_sequences.specs.declared.progress.Progress.{Progress as Before};
-ghost use Rattle.visit_sequences.specs.Steps.{AreFree, AreSeen, Changes, HasBit, HasSeen, IsBlockedAt, IsFree, IsListed, IsOpen, AreListed, Keeps, Sorts, StandsIn, Waits};
+ghost use Rattle.visit_sequences.specs.Steps.{AreFree, AreListed, AreSeen, Grows, HasBit, HasSeen, IsFree, IsListed, IsMissing, Keeps, Sorts, StandsIn, Waits, Wakes};
 
-use crate::bits::with;
+use crate::bits::{least_new, with};
 use crate::goals::Goal;
 use crate::listed::Listed;
 use crate::progress::{Progress, empty_sets, zeros};
 use flat_grammar::Occ;
-use flat_grammar::bits::is_within;
-use lido_base::Memory;
+use lido_base::{AttrId, Memory};
 use std::alloc::Global;
-use std::collections::BTreeSet;
-use std::mem;
+use std::collections::{BTreeMap, BTreeSet};
 
-/// The goals that wait at an occurrence, by their places in the list of goals.
+/// The goals that wait for one attribute occurrence, by their places in the list of goals.
 #[derive(Drop)]
 pub struct Waiting {
     pub goals: Vec<usize>,
@@ -28,41 +26,41 @@ pub struct Waiting {
 pub struct Queue {
     /// For each occurrence the goals that have all that they wait for, by their numbers. The evaluated ones stay.
     pub free: Vec<u128>,
-    /// For each occurrence the goals that wait for something there.
-    pub waiting: Vec<Waiting>,
+    /// What is missing, and the goals that wait for it.
+    pub waiting: BTreeMap<Occ, Waiting>,
     /// For each goal of the list how many of its computation's dependencies, from the first on, were found at hand.
     pub seen: Vec<usize>,
     /// The occurrences at which a free goal may be left to evaluate.
     pub left: Listed,
 }
 
-/// So many places at which nothing waits.
-fn empty_places(alloc: Global, count: usize) -> Result<Vec<Waiting>, Memory> {
-    let mut waiting = Vec::new(alloc);
-    for _ in 0..count {
-        waiting.push(Waiting {
-            goals: Vec::new(alloc),
-        })?;
-    }
-    Ok(waiting)
-}
-
 impl Queue {
-    /// The goal waits for something at this occurrence. There is a place for each.
-    fn wait(&mut self, occ: u16, goal: usize) -> Result<(), Memory>
+    /// The goals that waited for this. None waits for it any more.
+    fn woken(&mut self, alloc: Global, missing: Occ) -> Vec<usize>
+        ensures free { self.new.free ≡ self.old.free }
+        ensures seen { self.new.seen ≡ self.old.seen }
+        ensures left { self.new.left ≡ self.old.left }
+        ensures others { (u : Occurrence) (i : ℕ) → Waits self.old u i → ¬ (missing ≡ u) → Waits self.new u i }
+        ensures here { (i : ℕ) → Waits self.old missing i → Contains result.items i }
+    {
+        match self.waiting.remove(&missing) {
+            Some(Waiting { goals }) => goals,
+            None => Vec::new(alloc),
+        }
+    }
+
+    /// The goal waits for this.
+    fn wait(&mut self, alloc: Global, missing: Occ, goal: usize) -> Result<(), Memory>
         ensures keeps { OnOk result (Keeps self.old self.new) }
         ensures free { OnOk result (self.new.free ≡ self.old.free) }
         ensures seen { OnOk result (self.new.seen ≡ self.old.seen) }
         ensures left { OnOk result (self.new.left ≡ self.old.left) }
-        ensures waits { OnOk result (Waits self.new occ goal) }
+        ensures waits { OnOk result (Waits self.new missing goal) }
     {
-        match self.waiting.get_mut(occ as usize) {
-            Some(place) => {
-                place.goals.push(goal)?;
-                Ok(())
-            }
-            None => Err(Memory),
-        }
+        let mut goals = self.woken(alloc, missing);
+        goals.push(goal)?;
+        self.waiting.insert(missing, Waiting { goals })?;
+        Ok(())
     }
 
     /// The goal has all that it waits for. There is a set for each occurrence, and a symbol has no more than 128 attributes.
@@ -85,20 +83,6 @@ impl Queue {
         }
     }
 
-    /// The goals that waited at this occurrence. None waits there any more.
-    fn woken(&mut self, alloc: Global, occ: u16) -> Vec<usize>
-        ensures free { self.new.free ≡ self.old.free }
-        ensures seen { self.new.seen ≡ self.old.seen }
-        ensures left { self.new.left ≡ self.old.left }
-        ensures others { (k i : ℕ) → Waits self.old k i → ¬ (occ ≡ k) → Waits self.new k i }
-        ensures here { (i : ℕ) → Waits self.old occ i → Contains result.items i }
-    {
-        match self.waiting.get_mut(occ as usize) {
-            Some(place) => mem::replace(&mut place.goals, Vec::new(alloc)),
-            None => Vec::new(alloc),
-        }
-    }
-
     /// How many of the goal's dependencies were found at hand.
     fn seen_of(&self, at: usize) -> usize
         ensures { result ≡ slice_index self.now.seen.items at }
@@ -117,29 +101,35 @@ impl Queue {
         }
     }
 
-    /// An occurrence at which the goal still waits for something. It goes on behind the dependencies that were found at hand.
-    fn blocked(&mut self, progress: &Progress, goal: &Goal, at: usize) -> Option<u16>
+    /// Something that the goal still waits for. It goes on behind the dependencies that were found at hand.
+    fn blocked(&mut self, progress: &Progress, goal: &Goal, at: usize) -> Option<Occ>
         requires { AreSeen progress.now goal.now (slice_index self.old.seen.items at) }
-        ensures blocked { MatchOption result (IsFree progress.now goal.now) (IsBlockedAt progress.now goal.now) }
+        ensures blocked { MatchOption result (IsFree progress.now goal.now) (IsMissing progress.now goal.now) }
         ensures same { (self.new.free ≡ self.old.free) × (self.new.waiting ≡ self.old.waiting) }
         ensures left { self.new.left ≡ self.old.left }
         ensures others { (j : ℕ) → ¬ (at ≡ j) → slice_index self.new.seen.items j ≡ slice_index self.old.seen.items j }
         ensures seen { AreSeen progress.now goal.now (slice_index self.new.seen.items at) }
     {
-        let direct = goal.direct.as_slice();
-        let count = progress.seen_from(direct, self.seen_of(at));
+        let count = progress.seen_from(goal.direct.as_slice(), self.seen_of(at));
         self.note(at, count);
-        if !is_within(goal.same, progress.at_hand_at(goal.goal.occ)) {
-            return Some(goal.goal.occ);
+        let occ = goal.goal.occ;
+        if let Some(attr) = least_new(goal.same, progress.at_hand_at(occ)) {
+            return Some(Occ {
+                occ,
+                attr: AttrId(attr),
+            });
         }
-        match direct.get(count) {
-            Some(o) => Some(o.occ),
-            None => None,
-        }
+        goal.dependency(count)
     }
 
     /// Looks how a goal stands.
-    fn look(&mut self, progress: &Progress, goals: &[Goal], at: usize) -> Result<(), Memory>
+    fn look(
+        &mut self,
+        alloc: Global,
+        progress: &Progress,
+        goals: &[Goal],
+        at: usize,
+    ) -> Result<(), Memory>
         requires free { AreFree progress.now goals.now self.old }
         requires seen { HasSeen progress.now goals.now self.old }
         requires listed { AreListed progress.now self.old }
@@ -153,7 +143,7 @@ impl Queue {
             return Ok(());
         };
         match self.blocked(progress, goal, at) {
-            Some(occ) => self.wait(occ, at),
+            Some(missing) => self.wait(alloc, missing, at),
             None => self.set_free(goal.goal),
         }
     }
@@ -165,32 +155,54 @@ impl Queue {
         let count = progress.evaluated.len();
         let mut queue = Queue {
             free: empty_sets(alloc, count)?,
-            waiting: empty_places(alloc, count)?,
+            waiting: BTreeMap::new(alloc),
             seen: zeros(alloc, goals.len())?,
             left: Listed {
                 occurrences: BTreeSet::new(alloc),
             },
         };
         for at in 0..goals.len() {
-            queue.look(progress, goals, at)?;
+            queue.look(alloc, progress, goals, at)?;
         }
         Ok(queue)
     }
 
-    /// Looks again at the goals that wait at this occurrence: more is at hand there.
+    /// Looks again at the goals that wait for this.
+    fn wake_one(
+        &mut self,
+        alloc: Global,
+        progress: &Progress,
+        goals: &[Goal],
+        missing: Occ,
+    ) -> Result<(), Memory>
+        requires free { AreFree progress.now goals.now self.old }
+        requires seen { HasSeen progress.now goals.now self.old }
+        requires listed { AreListed progress.now self.old }
+        ensures free { OnOk result (AreFree progress.now goals.now self.new) }
+        ensures seen { OnOk result (HasSeen progress.now goals.now self.new) }
+        ensures listed { OnOk result (AreListed progress.now self.new) }
+        ensures wakes { OnOk result (Wakes progress.now goals.now self.old self.new missing) }
+    {
+        let woken = self.woken(alloc, missing);
+        for at in &woken {
+            self.look(alloc, progress, goals, *at)?;
+        }
+        Ok(())
+    }
+
+    /// Looks again at the goals that wait for what is given: it is at hand now.
     pub fn wake(
         &mut self,
         alloc: Global,
         progress: &Progress,
         goals: &[Goal],
-        occ: u16,
+        given: &[Occ],
     ) -> Result<(), Memory>
-        requires { (before : Before) × Sorts before goals.now self.old × Changes before progress.now occ }
+        requires { (before : Before) × Sorts before goals.now self.old × Grows before progress.now (Contains given.now) }
         ensures { OnOk result (Sorts progress.now goals.now self.new) }
     {
-        let woken = self.woken(alloc, occ);
-        for at in &woken {
-            self.look(progress, goals, *at)?;
+        for missing in given {
+            self.wake_one(alloc, progress, goals, *missing)?;
         }
         Ok(())
     }

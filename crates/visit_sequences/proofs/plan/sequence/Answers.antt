@@ -1,12 +1,13 @@
 use Rattle.std.specs.Prelude.{unwrap_or, Contains, take}
 use Rattle.flat_grammar.proofs.Lists.{contains-nil}
-use Rattle.std.proofs.Common.{◌≡◌, ◌<◌, ◌≤◌, ◌∙◌, ◌⊎◌, ℕ, List, [], Option, refl, ap, sym, subst, length, true≢false, arith, rules}
+use Rattle.flat_grammar.specs.declared.flat.Occ.{Occ}
+use Rattle.std.proofs.Common.{◌≡◌, inl, inr, ◌<◌, ◌≤◌, ◌∙◌, ◌⊎◌, ℕ, List, [], Option, refl, ap, sym, subst, length, true≢false, arith, rules}
 use Rattle.std.proofs.lemmas.Grind.{common_steps}
 use Rattle.flat_grammar.specs.declared.plan.PlanItem.TheVariants.{Leave}
 use Rattle.flat_grammar.specs.declared.plan.VisitClass.{VisitClass}
 use Rattle.flat_grammar.specs.Construction.{IsConstructed}
 use Rattle.flat_grammar.specs.SoundPlan.{segment_after}
-use Rattle.visit_sequences.specs.Steps.{place_of, row_of, IsLeastOpen, IsListed, IsRest, Sorts, Changes}
+use Rattle.visit_sequences.specs.Steps.{place_of, row_of, IsLeastOpen, IsListed, IsRest, Sorts, Gives}
 use Rattle.visit_sequences.proofs.Classes.{row-there}
 use Rattle.visit_sequences.proofs.Occurrences.{rule-is}
 use Rattle.visit_sequences.proofs.ChoiceLemmas.{ready-child, rest-stays}
@@ -35,8 +36,8 @@ loop-rest-preserved c =
           (λ e. true≢false (sym (c.is_end.ensures.1 (e ∙ ap (λ (l : List VisitClass). Leave (length l)) (sym row))) ∙ c.if-is_end.false)));
       sorts = subst (λ l. Sorts c.take.new.self l c.wake.new.self) c.deref-in-loop-rest-4.ensures.value c.in_ok-wake.ensures;
       rest = rest-stays visits r c.in_ok-goals.goals.items c.loop-rest.progress c.take.new.self c.in_ok-item.item (place_of c.in_ok-item.item) c.choose.new.rest (record { goals = c.choose.new.rest.goals; children = c.choose.new.rest.children; ready = c.list.new.self })
-          c.loop-rest.invariant.follows c.in_ok-take.ensures.follows c.in_ok-take.ensures.items c.in_ok-take.ensures.changes refl refl
-          (subst (λ k. (j : ℕ) → IsListed c.choose.new.rest.ready j ⊎ (j ≡ k) → IsListed c.list.new.self j) c.place-in-loop-rest.ensures c.in_ok-list.ensures)
+          c.loop-rest.invariant.follows c.in_ok-take.ensures.follows c.in_ok-take.ensures.items c.in_ok-take.ensures.grows.evaluated c.in_ok-take.ensures.others refl refl
+          (subst (λ k. (j : ℕ) → IsListed c.choose.new.rest.ready j ⊎ (j ≡ k) → IsListed c.list.new.self j) c.place.ensures c.in_ok-list.ensures)
           (subst (λ l. IsRest visits r c.loop-rest.progress l c.choose.new.rest) c.deref-in-loop-rest-3.ensures.value c.in_ok-item.ensures.rest);
     }
 
@@ -44,11 +45,19 @@ pub least_ready-ready-requires : goal.least_ready-ready-requires
 least_ready-ready-requires c = subst (λ l. Sorts c.loop-rest.progress l c.loop-rest.queue) (sym c.deref-in-loop-rest-2.ensures.value) c.loop-rest.invariant.sorts
 
 pub wake-requires : goal.wake-requires
-wake-requires c = (
-  c.loop-rest.progress,
-  subst (λ l. Sorts c.loop-rest.progress l c.least_ready-ready.new.queue) (c.deref-in-loop-rest-2.ensures.value ∙ sym c.deref-in-loop-rest-4.ensures.value) c.least_ready-ready.ensures.sorts,
-  subst (λ k. Changes c.loop-rest.progress c.take.new.self k) (sym c.place.ensures) c.in_ok-take.ensures.changes,
-)
+wake-requires c =
+    let grows = c.in_ok-take.ensures.grows in
+    let visits = c.args.parts.now.visits in
+    let given : (u : Occ) → Gives visits c.args.rule.now c.in_ok-item.item u → Contains c.deref-in-loop-rest-5.result.now u =
+    λ u g. subst (λ l. Contains l u) (sym c.deref-in-loop-rest-5.ensures.value) (c.in_ok-given.ensures u (subst (λ l. Gives l c.args.rule.now c.in_ok-item.item u) (sym c.as_slice-in-loop-rest-2.ensures) g)) in (
+      c.loop-rest.progress,
+      subst (λ l. Sorts c.loop-rest.progress l c.least_ready-ready.new.queue) (c.deref-in-loop-rest-2.ensures.value ∙ sym c.deref-in-loop-rest-4.ensures.value) c.least_ready-ready.ensures.sorts,
+      record {
+        evaluated = grows.evaluated;
+        stays = grows.stays;
+        given = λ u bit. elim (grows.given u bit) [ inl b ↦ inl b | inr g ↦ inr (given u g) ];
+      },
+    )
 
 pub returns-then-is_end : goal.returns-then-is_end
 returns-then-is_end c =

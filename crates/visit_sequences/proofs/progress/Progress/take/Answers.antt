@@ -1,8 +1,8 @@
-use Rattle.std.proofs.Common.{◌≡◌, ◌∙◌, ◌+◌, ◌++◌, [], ◌∷◌, ap, subst}
+use Rattle.std.proofs.Common.{inl, inr, sym, ◌⊎◌, ◌≡◌, ◌∙◌, ◌+◌, ◌++◌, [], ◌∷◌, ap, subst}
 use Rattle.flat_grammar.specs.declared.plan.PlanItem.TheVariants.{Eval, Visit, Leave}
 use Rattle.flat_grammar.specs.declared.plan.VisitClass.{VisitClass}
 use Rattle.flat_grammar.specs.Construction.{IsChosen}
-use Rattle.visit_sequences.specs.Steps.{row_of, Passes}
+use Rattle.visit_sequences.specs.Steps.{row_of, Gives, HasBit, Passes}
 use Rattle.visit_sequences.proofs.TakeLemmas.{taken-eval, taken-visit, taken-leave}
 use Rattle.visit_sequences.proofs.progress.Progress.take.Goals as goal
 
@@ -44,3 +44,18 @@ returns-in-Leave-clause-follows c =
     let items : q.items.items ≡ p.items.items ++ Leave v ∷ [] = ap (λ v. v.items) e.same.0 ∙ (c.in_ok-push.ensures.items ∙ ap (λ i. p.items.items ++ i ∷ []) c.in-Leave.is) in
     taken-leave flat.symbols flat.rules flat.shapes flat.root flat.well_formed visits c.requires.visits c.args.rule.now c.requires.rule p q c.requires.follows v chosen items e.same.1 e.same.2 e.each e.segment
     (subst (λ l. Passes (λ (s : VisitClass). s.inherited) (row_of l c.args.rule.now 0) (v + 1) p.at_hand.items q.at_hand.items 0) c.as_slice-visits.ensures e.at_hand)
+
+pub returns-in-Leave-clause-grows : goal.returns-in-Leave-clause-grows
+returns-in-Leave-clause-grows c =
+    let visits = c.args.parts.now.visits in
+    let r = c.args.rule.now in
+    let p = c.args.self.now in
+    let q = c.leave.new.self in
+    let v = c.in-Leave.visit in
+    let e = c.leave.ensures in
+    let passes = subst (λ l. Passes (λ (s : VisitClass). s.inherited) (row_of l r 0) (v + 1) p.at_hand.items q.at_hand.items 0) c.as_slice-visits.ensures e.at_hand in
+    record {
+      evaluated = λ u b. subst (λ s. HasBit s.items u) (sym e.same.1) b;
+      stays = λ u b. (passes u).1 (inl b);
+      given = λ u b. subst (λ i. HasBit p.at_hand.items u ⊎ Gives visits r i u) (sym c.in-Leave.is) (elim ((passes u).0 b) [ inl o ↦ inl o | inr x ↦ inr (x.0, x.3) ]);
+    }

@@ -4,7 +4,7 @@ use Rattle.std.proofs.lemmas.Option.{slice_get_read}
 use Rattle.flat_grammar.specs.declared.flat.Occ.{Occ}
 use Rattle.flat_grammar.proofs.Lists.{held, contains-slice_get}
 use Rattle.visit_sequences.specs.declared.goals.Goal.{Goal}
-use Rattle.visit_sequences.specs.Steps.{AreFree, AreListed, IsListed, HasBit, HasSeen, Keeps, StandsIn, Waits, IsBlockedAt}
+use Rattle.visit_sequences.specs.Steps.{AreFree, AreListed, IsListed, HasBit, HasSeen, Keeps, StandsIn, Waits, IsMissing}
 use Rattle.visit_sequences.proofs.QueueLemmas.{on_ok-then, on_ok-two, free-more, listed-more, same-listed, keeps-more, keeps-same, seen-next}
 use Rattle.visit_sequences.proofs.queue.Queue.look.Goals as goal
 
@@ -24,8 +24,8 @@ returns-in-Some-blocked-clause-stands c =
     let new = c.wait.new.self in
     let got = c.in-Some.ensures.lookup in
     let at : slice_get goals i ≡ Some c.in-Some.goal.now = slice_get_read goals (length goals) i c.in-Some.goal.now refl got.3.0 got.1 in
-    on_ok-then c.wait.result (Waits new c.in-Some-blocked.occ i) ((g : Goal) → slice_get goals i ≡ Some g → StandsIn p new i g)
-    (λ w g e. inr (c.in-Some-blocked.occ, w, subst (λ x. IsBlockedAt p x c.in-Some-blocked.occ) (held (sym at ∙ e)) c.in-Some-blocked.ensures.blocked)) c.wait.ensures.waits
+    on_ok-then c.wait.result (Waits new c.in-Some-blocked.missing i) ((g : Goal) → slice_get goals i ≡ Some g → StandsIn p new i g)
+    (λ w g e. inr (c.in-Some-blocked.missing, w, subst (λ x. IsMissing p x c.in-Some-blocked.missing) (held (sym at ∙ e)) c.in-Some-blocked.ensures.blocked)) c.wait.ensures.waits
 
 pub returns-in-None-clause-free : goal.returns-in-None-clause-free
 returns-in-None-clause-free c =

@@ -1,39 +1,35 @@
 use Rattle.std.specs.Prelude.{Contains}
-use Rattle.std.proofs.Common.{sym, subst, inl, inr}
-use Rattle.flat_grammar.proofs.Lists.{contains-nil}
-use Rattle.visit_sequences.proofs.QueueLemmas.{woken-listed, woken-seen, woken-stands, woken-free, looked-next, still-stands, all-stand}
+use Rattle.visit_sequences.proofs.QueueLemmas.{grown-free, grown-seen, grown-listed, late-first, late-next, late-last}
 use Rattle.visit_sequences.proofs.queue.Queue.wake.Goals as goal
 
-pub loop-at-init : goal.loop-at-init
-loop-at-init c =
+pub loop-missing-init : goal.loop-missing-init
+loop-missing-init c =
     let p = c.args.progress.now in
     let goals = c.args.goals.now in
-    let old = c.args.self.now in
-    let new = c.woken-woken.new.self in
-    let woken = c.deref-at-items.result.now in
-    let (before, sorts, changes) = c.requires in
+    let q = c.args.self.now in
+    let given = c.args.given.now in
+    let (before, sorts, grows) = c.requires in
     record {
-      free = woken-free before p goals old new c.args.occ sorts changes c.woken-woken.ensures.free;
-      seen = woken-seen before p goals old new c.args.occ sorts changes c.woken-woken.ensures.seen;
-      others = woken-stands before p goals old new c.args.occ woken sorts changes c.woken-woken.ensures.free c.woken-woken.ensures.others (λ i w. subst (λ l. Contains l i) (sym c.deref-at-items.ensures.value) (c.woken-woken.ensures.here i w));
-      looked = λ i g at m. absurd (contains-nil i m);
-      listed = woken-listed before p goals old new c.args.occ sorts changes c.woken-woken.ensures.free c.woken-woken.ensures.left;
+      free = grown-free before p goals q (λ u. Contains given u) sorts grows;
+      seen = grown-seen before p goals q (λ u. Contains given u) sorts grows;
+      listed = grown-listed before p goals q (λ u. Contains given u) sorts grows;
+      late = late-first before p goals q given sorts grows;
     }
 
-pub loop-at-preserved : goal.loop-at-preserved
-loop-at-preserved c =
-    let p = c.args.progress.now in
-    let goals = c.args.goals.now in
-    let old = c.loop-at.self in
-    let new = c.look.new.self in
-    let done = c.in_ok-look.ensures in
+pub loop-missing-preserved : goal.loop-missing-preserved
+loop-missing-preserved c =
+    let done = c.in_ok-wake_one.ensures in
     record {
       free = done.free;
       seen = done.seen;
-      others = λ i g at. elim (c.loop-at.invariant.others i g at) [ inl s ↦ inl (still-stands p old new i g done.keeps s) | inr m ↦ inr m ];
-      looked = looked-next p goals old new c.deref-at-items.result.now c.loop-at.at-index 0 c.loop-at-test.true done.keeps c.loop-at.invariant.looked done.stands;
       listed = done.listed;
+      late = λ i g at. late-next c.args.progress.now c.args.goals.now c.loop-missing.self c.wake_one.new.self c.args.given.now c.loop-missing.missing-index (record { occ = 0; attr = record { 0 = 0 } }) c.loop-missing-test.true done.wakes i g at (c.loop-missing.invariant.late i g at);
     }
 
 pub returns : goal.returns
-returns c = all-stand c.args.progress.now c.args.goals.now c.loop-at.self c.deref-at-items.result.now c.loop-at.at-index c.loop-at-test.false c.loop-at.invariant.free c.loop-at.invariant.seen c.loop-at.invariant.listed c.loop-at.invariant.others c.loop-at.invariant.looked
+returns c = record {
+  free = c.loop-missing.invariant.free;
+  seen = c.loop-missing.invariant.seen;
+  stands = λ i g at. late-last c.args.progress.now c.loop-missing.self c.args.given.now c.loop-missing.missing-index i g c.loop-missing-test.false (c.loop-missing.invariant.late i g at);
+  listed = c.loop-missing.invariant.listed;
+}

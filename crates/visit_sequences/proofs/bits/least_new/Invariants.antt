@@ -1,6 +1,6 @@
 use Rattle.std.specs.Prelude.{IsBitSet}
 use Rattle.std.proofs.Common.{◌<◌, ℕ}
-use Rattle.visit_sequences.proofs.choice.least_new.Given as goal
+use Rattle.visit_sequences.proofs.bits.least_new.Given as goal
 
 -- what the one set has so far, the other one has
 abbrev pub invariant-loop-k : goal.invariant-loop-k

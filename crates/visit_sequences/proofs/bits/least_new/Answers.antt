@@ -2,7 +2,7 @@ use Rattle.std.proofs.Common.{arith}
 use Rattle.std.proofs.lemmas.Bool.{cases_lt}
 use Rattle.std.proofs.Common.{inl, inr}
 use Rattle.flat_grammar.proofs.BitsLemmas.{not-above}
-use Rattle.visit_sequences.proofs.choice.least_new.Goals as goal
+use Rattle.visit_sequences.proofs.bits.least_new.Goals as goal
 
 pub returns : goal.returns
 returns c = λ j bit. elim (cases_lt j 128) [

@@ -81,7 +81,7 @@ module _ {V : Type 0} (symbols : List FlatSymbol) (rules : List FlatRule) (flat 
   abbrev pub text_cells : ℕ
   text_cells = sum_by (λ (node : Node V). at_node (λ r. sum_by (λ (c : FlatComp). cells c.value) r.comps) node.rule) flat
 
--- the most instances and text cells that a flat tree may have
+-- the most instances that a flat tree may have
 abbrev pub most_instances : ℕ
 most_instances = 4194304
 

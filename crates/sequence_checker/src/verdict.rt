@@ -45,11 +45,11 @@ fn check_sequences(alloc: Global, flat: &Flat, plan: &Plan) -> Result<(), CheckF
 /// place and clause. `Memory` is want of memory, and says nothing of the plan.
 ///
 /// The rules of soundness are those of Kastens' visit sequences (1980). By clauses: 0, each symbol has one row of visits, a
-/// terminal an empty one, a nonterminal one visit at least; each attribute stands once, in a class of its kind; there is a
-/// sequence for each rule; and the numbers of an item are in range. 1, each goal of a rule is evaluated once. 2, each child's
-/// visits are made, in turn. 3, what a child inherits in a visit is evaluated before. 4, what a goal depends on is at hand:
-/// evaluated, synthesized by a visit that was made, or inherited up to the present visit. 5, a visit's end stands in that visit,
-/// behind the evaluation of all that it synthesizes, and the last visit's end is the last item.
+/// terminal an empty one, a nonterminal one visit at least; each attribute stands once, in a class of its kind, and nothing else
+/// stands in a class; there is a sequence for each rule; and the numbers of an item are in range. 1, each goal of a rule is
+/// evaluated once. 2, each child's visits are made, in turn. 3, what a child inherits in a visit is evaluated before. 4, what a
+/// goal depends on is at hand: evaluated, synthesized by a visit that was made, or inherited up to the present visit. 5, a
+/// visit's end stands in that visit, behind the evaluation of all that it synthesizes, and the last visit's end is the last item.
 ///
 /// A fault of the rows or of the number of sequences is at rule 0, place 0, clause 0. What the end of a sequence lacks is at the
 /// place that is the sequence's length. The time is linear in the sizes of the plan and of the grammar.

@@ -68,7 +68,8 @@ impl Library {
 }
 
 impl Library {
-    /// Writes the text of a descriptor. It takes no memory, and time in line with the bytes and with the deposits that print them.
+    /// Writes the text of a descriptor. It takes no memory, and time in line with the bytes, with the deposits that print them
+    /// and with the parts of their patterns, of which each is looked at, also one that prints nothing.
     /// After a fault the sink has taken the first `written` bytes of the text, and not all.
     pub fn write<K: Sink>(
         &self,

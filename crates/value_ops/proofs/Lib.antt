@@ -1,1 +1,3 @@
 pub mod OutcomeLemmas
+pub mod HandedLemmas
+pub mod DistinctLemmas

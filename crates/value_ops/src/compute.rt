@@ -1,14 +1,15 @@
 //! The operations that make no text.
-ghost use Rattle.std.specs.Prelude.{◌≡◌, List, ℕ, MatchOption, None, map, ◌∷◌, [], slice_get, unwrap_or};
+ghost use Rattle.std.specs.Prelude.{◌≡◌, List, ℕ, MatchOption, None, Some, map, ◌∷◌, [], slice_get, unwrap_or};
 ghost use Rattle.std.specs.Str.{bytes_eq};
 ghost use Rattle.lido_base.specs.Operations.{applied};
 ghost use Rattle.lido_base.specs.Plain.{Plain, Int as Whole, Truth, Str as Words};
 ghost use Rattle.lido_base.specs.declared.value.BadKind.{BadKind as Failure};
 ghost use Rattle.lido_base.specs.declared.pattern.Pattern.{Pattern as TextPattern};
 ghost use Rattle.lido_base.specs.declared.value.Desc.{Desc as Descriptor};
+ghost use Rattle.lido_base.specs.declared.value.Value.{Value as Given};
 ghost use Rattle.string_librarian.specs.Denotes.{read_by};
 ghost use Rattle.string_librarian.specs.Rooms.{RoomState};
-ghost use Rattle.value_ops.specs.Outcome.{piece_of, DenoteAll, Gives, GivesNumber, StandsFor};
+ghost use Rattle.value_ops.specs.Outcome.{piece_of, handed_on, DenoteAll, Gives, GivesNumber, StandsFor};
 
 use crate::numbers::{difference, negated, product, quotient, remainder, sum};
 use lido_base::{BadKind, EMPTY, Op, StrId, Strings, Value};
@@ -16,9 +17,10 @@ use string_librarian::bytes_of;
 
 /// What an operation that makes no text gives, or how it fails. Arguments that do not fit give `Void`.
 pub fn computed(op: Op, args: &[Value], strings: &Strings) -> Result<Value, BadKind>
-    ensures { (patterns : List TextPattern) (rooms : List RoomState) (reading : Descriptor → List ℕ) → piece_of op ≡ None
+    ensures value { (patterns : List TextPattern) (rooms : List RoomState) (reading : Descriptor → List ℕ) → piece_of op ≡ None
         → DenoteAll strings.now patterns rooms reading args.now
         → Gives strings.now patterns rooms result (λ fails. applied strings.now patterns fails op (map (read_by strings.now reading) args.now)) }
+    ensures handed { (v : Given) → handed_on op args.now ≡ Some v → result ≡ Ok v }
 {
     let Some((a, rest)) = next(args) else {
         return Ok(of_none(op));
@@ -44,8 +46,9 @@ fn next(args: &[Value]) -> Option<(Value, &[Value])>
 
 /// What an operation gives for no arguments.
 fn of_none(op: Op) -> Value
-    ensures { (texts : List (List ℕ)) (patterns : List TextPattern) (rooms : List RoomState) (fails : Failure → Plain) → piece_of op ≡ None
+    ensures value { (texts : List (List ℕ)) (patterns : List TextPattern) (rooms : List RoomState) (fails : Failure → Plain) → piece_of op ≡ None
         → StandsFor texts patterns rooms result (applied texts patterns fails op []) }
+    ensures handed { (v : Given) → handed_on op [] ≡ Some v → result ≡ v }
 {
     match op {
         Op::Zero => Value::Int(0),
@@ -57,9 +60,10 @@ fn of_none(op: Op) -> Value
 
 /// What an operation gives for one argument.
 fn of_one(op: Op, a: Value) -> Result<Value, BadKind>
-    ensures { (texts : List (List ℕ)) (patterns : List TextPattern) (rooms : List RoomState) (reading : Descriptor → List ℕ) → piece_of op ≡ None
+    ensures value { (texts : List (List ℕ)) (patterns : List TextPattern) (rooms : List RoomState) (reading : Descriptor → List ℕ) → piece_of op ≡ None
         → DenoteAll texts patterns rooms reading (a ∷ [])
         → Gives texts patterns rooms result (λ fails. applied texts patterns fails op (read_by texts reading a ∷ [])) }
+    ensures handed { (v : Given) → handed_on op (a ∷ []) ≡ Some v → result ≡ Ok v }
 {
     match op {
         Op::Identical => Ok(a),
@@ -153,11 +157,19 @@ fn of_same(op: Op, same: bool) -> Value
     }
 }
 
-/// Whether two strings have the same bytes.
+/// Whether two strings have the same bytes. No text stands twice in the table, so two ids with texts tell by themselves; an id
+/// without a text has no byte.
 fn are_equal(strings: &Strings, s: StrId, t: StrId) -> bool
     ensures { result ≡ bytes_eq (unwrap_or (slice_get strings.now s.0) []) (unwrap_or (slice_get strings.now t.0) []) }
 {
-    s == t || bytes_of(strings, s) == bytes_of(strings, t)
+    if s == t {
+        return true;
+    }
+    let count = strings.len();
+    if (s.0 as usize) < count && (t.0 as usize) < count {
+        return false;
+    }
+    bytes_of(strings, s) == bytes_of(strings, t)
 }
 
 /// The number as a value.

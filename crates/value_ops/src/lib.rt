@@ -163,6 +163,7 @@ mod tests {
             text(3)
         );
         assert_eq!(rt; value_of(alloc, Op::Null, &[])?, Value::Text(EMPTY));
+        assert_eq!(rt; value_of(alloc, Op::Identical, &[text(0)])?, text(0));
         assert_eq!(rt;
             value_of(alloc, Op::Neg, &[Value::Int(i64::MIN)])?,
             bad(BadKind::Overflow)

@@ -3,9 +3,10 @@ ghost use Rattle.std.specs.Prelude.{◌≡◌, ◌+◌, ◌≤◌, List, ℕ, Op
 ghost use Rattle.lido_base.specs.Operations.{applied, operate};
 ghost use Rattle.lido_base.specs.declared.operation.Op.{Op as Operation};
 ghost use Rattle.lido_base.specs.declared.value.Desc.{Desc as Descriptor};
+ghost use Rattle.lido_base.specs.declared.value.Value.{Value as Given};
 ghost use Rattle.string_librarian.specs.Denotes.{Denotes, read_by};
 ghost use Rattle.string_librarian.specs.Rooms.{RoomState, cells_of};
-ghost use Rattle.value_ops.specs.Outcome.{after, bad_at, cells_wanted, piece_of, fits, first_bad as first_bad_of, made, DenoteAll, Gives, StandsFor};
+ghost use Rattle.value_ops.specs.Outcome.{after, bad_at, cells_wanted, piece_of, handed_on, fits, first_bad as first_bad_of, made, DenoteAll, Gives, StandsFor};
 
 use crate::compute::computed;
 use crate::lengths::printed_len;
@@ -14,7 +15,8 @@ use string_librarian::{Room, parts_of};
 
 /// The value of an operation: the first Bad argument, or else what the operation gives, or Bad with this node and computation
 /// where it fails. An operation that makes a text adds a deposit to the room, and a text of more than 2^30 bytes is
-/// `TextTooLong` before any is made. It takes no memory. Arguments that do not fit the operation give `Void`.
+/// `TextTooLong` before any is made. It takes no memory, and for a pattern's function time in line with the pattern's parts.
+/// Arguments that do not fit the operation give `Void`.
 pub fn apply(
     op: Op,
     args: &[Value],
@@ -36,6 +38,9 @@ pub fn apply(
     ensures room { room.new ≡ after room.old op args.now result }
     ensures descriptor { (d : Descriptor) → IsSome (piece_of op) → result ≡ Value.Text d
         → d ≡ record { room = room.old.number; node = 1 + cells_of room.old.deposits; len = d.len } }
+
+    // `IDENTICAL` gives the value that it was given, a text by the same descriptor, and `PTGNULL` the empty descriptor.
+    ensures handed { (v : Given) → handed_on op args.now ≡ Some v → result ≡ v }
 
     ensures earlier { (rooms : List RoomState) (d : Descriptor) (bytes : List ℕ) → slice_get rooms room.old.number ≡ Some room.old
         → Denotes strings.now patterns.now.list rooms d bytes
@@ -64,6 +69,7 @@ fn outcome_of(
         → Gives strings.now patterns.now.list rooms result
         (λ fails. applied strings.now patterns.now.list fails op (map (read_by strings.now reading) args.now)) }
     ensures room { MatchResult result (λ v. room.new ≡ after room.old op args.now v) (λ _. room.new ≡ room.old) }
+    ensures handed { (v : Given) → handed_on op args.now ≡ Some v → result ≡ Ok v }
     ensures descriptor { (d : Descriptor) → IsSome (piece_of op) → result ≡ Ok (Value.Text d)
         → d ≡ record { room = room.old.number; node = 1 + cells_of room.old.deposits; len = d.len } }
     ensures earlier { (rooms : List RoomState) (d : Descriptor) (bytes : List ℕ) → slice_get rooms room.old.number ≡ Some room.old

@@ -11,7 +11,7 @@ use lido_base::{Strings, SymId};
 #[derive(Clone, Copy, Debug, PartialEq, Eq)]
 pub struct UnknownSplit;
 
-/// Whether the symbol is a nonterminal of this name.
+/// Whether the symbol is a nonterminal of this name. The name is compared first: all shapes tell whether a symbol is a cell.
 fn is_named(flat: &Flat, strings: &Strings, name: &str, id: SymId) -> bool
     requires texts { All (λ symbol. symbol.name.0 < length strings.now) flat.now.symbols }
     requires symbol { id.0 < length flat.now.symbols }
@@ -19,10 +19,10 @@ fn is_named(flat: &Flat, strings: &Strings, name: &str, id: SymId) -> bool
     ensures no { IsNonterminalNamed flat.now.symbols flat.now.rules flat.now.shapes strings.now name.now id → IsTrue result }
 {
     let symbol = &flat.symbols.as_slice()[id.0 as usize];
-    if symbol.terminal.is_some() || is_cell(flat, id) {
+    if strings.bytes(symbol.name) != name.as_bytes() {
         return false;
     }
-    strings.bytes(symbol.name) == name.as_bytes()
+    symbol.terminal.is_none() && !is_cell(flat, id)
 }
 
 /// The nonterminal of this name. `UnknownSplit` comes exactly where there is none. It takes no memory.

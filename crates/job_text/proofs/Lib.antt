@@ -1,5 +1,6 @@
 mod FaultLemmas
 mod FormLemmas
+mod GeneratedLemmas
 mod NumberLemmas
 mod RepeatLemmas
 mod WordLemmas

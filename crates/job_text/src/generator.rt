@@ -34,6 +34,7 @@ const BLOCK: &[u8] =
 const TAIL: &[u8] = b")\n";
 
 /// The job text with this many blocks of ten items each, from 1 to 50,000. An `Err` is want of memory.
+#[tactic(auto, using(crate::proofs::GeneratedLemmas::texts_are))]
 pub fn big(alloc: Global, n: u32) -> Result<Vec<u8>, Memory>
     requires some { 1 ≤ n }
     requires few { n ≤ 50000 }

@@ -145,7 +145,7 @@ fn shown(alloc: Global, answer: &Result<Command, WordsFault>) -> Result<String, 
 #[test]
 fn words_are_read(rt: HostRuntime) -> Result<(), Fail> {
     let alloc = rt.alloc();
-    let rows: [(&str, &str); 67] = [
+    let rows: [(&str, &str); 68] = [
         ("", "0 Missing"),
         (" ", "0 Unknown"),
         ("walk", "0 Unknown"),
@@ -182,6 +182,7 @@ fn words_are_read(rt: HostRuntime) -> Result<(), Fail> {
         ("run min=1048576", "run 1 [] 1048576 4"),
         ("run min=1048577", "1 Range"),
         ("run patience=0", "1 Range"),
+        ("run patience=1", "run 1 [] 1 1"),
         ("run patience=1000", "run 1 [] 1 1000"),
         ("run patience=1001", "1 Range"),
         ("run min=1 min=2", "2 Repeated"),

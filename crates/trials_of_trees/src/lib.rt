@@ -1,6 +1,13 @@
-//! Trials of trees: texts of trees over a grammar of lists in lists are read, flattened and split. Nothing stands on this crate.
+//! Trials of trees: texts of trees are cut into their parts, and over a grammar of expressions read, flattened and split. Nothing stands
+//! on this crate.
 #![tactic(auto)]
 
-pub mod blocks;
+pub mod expressions;
 #[cfg(test)]
-mod tests;
+mod part_tests;
+#[cfg(test)]
+mod readings;
+#[cfg(test)]
+mod split_tests;
+#[cfg(test)]
+mod tree_tests;

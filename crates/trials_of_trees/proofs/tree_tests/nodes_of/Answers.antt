@@ -2,7 +2,7 @@ use Rattle.std.proofs.Common.{List, subst, sym}
 use Rattle.tree_reader.specs.Language.{IsOneNode}
 use Rattle.tree_reader.specs.Scanning.{Scanning}
 use Rattle.tree_reader.specs.declared.part.Part.{Part}
-use Rattle.trials_of_written_trees.proofs.tests.nodes_of.Goals as goal
+use Rattle.trials_of_trees.proofs.tree_tests.nodes_of.Goals as goal
 
 pub write_tree-requires-clause-one : goal.write_tree-requires-clause-one
 unfolding Scanning

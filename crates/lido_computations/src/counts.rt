@@ -6,11 +6,11 @@ use crate::ReadSpecFault;
 
 /// What is left to spend, and which number comes next.
 #[derive(Clone, Copy, Debug, PartialEq, Eq)]
-pub(crate) struct Counts {
+pub struct Counts {
     /// How many operators, calls and opening parentheses may still come in the computation.
-    pub(crate) budget: u32,
+    pub budget: u32,
     /// The number of the next computation or CONSTITUENTS.
-    pub(crate) number: u32,
+    pub number: u32,
 }
 
 /// One operator, call or parenthesis less to come, if there may be one.

@@ -2,11 +2,11 @@
 #![tactic(auto)]
 
 mod computations;
-mod counts;
+pub mod counts;
 mod expressions;
 mod fault;
 pub mod names;
-mod operators;
+pub mod operators;
 mod places;
 
 pub use computations::computation;

@@ -12,7 +12,7 @@ use std::alloc::Global;
 
 /// What a token begins, where an operand is read.
 #[derive(Clone, Copy, Debug, PartialEq, Eq)]
-pub(crate) enum Start {
+pub enum Start {
     /// It is a constant.
     Constant,
     /// A call or a parenthesis that counts: PTGNULL, IF, ORDER or an opening parenthesis.

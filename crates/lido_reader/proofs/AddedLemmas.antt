@@ -1,28 +1,27 @@
 -- Tables of texts that have the names of all functions, and what is added to them.
-use Rattle.std.specs.Prelude.{◌≡◌, ◌⊎◌, ℕ, ◌+◌, Bool, true, false, not, IsTrue, if◌then◌else◌, List, [], ◌∷◌, ◌++◌, codes, Option, Some, None, Result, Ok, Err, OnOk, refl}
+use Rattle.std.specs.Prelude.{◌≡◌, ◌⊎◌, ℕ, ◌+◌, Bool, true, false, not, IsTrue, if◌then◌else◌, List, [], ◌∷◌, ◌++◌, Result, Ok, Err, OnOk, refl}
 use Rattle.std.proofs.Common.{sym, ap, subst, ◌∙◌, ◌||◌, append_assoc, append-nil}
 use Rattle.std.specs.List.{list_any, IsDistinct, AllByRecursion}
 use Rattle.std.specs.Str.{bytes_eq}
 use Rattle.std.proofs.lemmas.Slice.Eq.{bytes_eq-Decides}
 use Rattle.lido_base.specs.Reading.{Finds, nothing}
 use Rattle.lido_base.specs.Texts.{with_text, IsDistinctTexts}
-use Rattle.lido_base.proofs.TextsLemmas.{IsDistinct-with_text, with_text-present}
+use Rattle.lido_base.proofs.TextsLemmas.{IsDistinct-with_text}
 use Rattle.lido_lexer.specs.Lexing.{Gains}
 use Rattle.lido_lexer.specs.Seen.{Sees, token, Keys}
 use Rattle.lido_lexer.specs.declared.keyword.Keyword.TheVariants as key
-use Rattle.lido_lexer.specs.declared.sign.Sign.TheVariants as sign
 use Rattle.lido_lexer.specs.declared.token.Token.{Token}
 use Rattle.lido_lexer.specs.declared.token.TokenKind.{TokenKind}
 use Rattle.lido_lexer.specs.declared.token.TokenKind.TheVariants as kind
 use Rattle.lido_lexer.proofs.Reading.{gains_none, gains_more}
 use Rattle.lido_syntax.specs.declared.spec.Name.{Name}
-use Rattle.lido_reader.specs.Phrases.{IsName, word}
-use Rattle.lido_reader.specs.Expressions.{infix_of, prefix_of}
+use Rattle.lido_computations.specs.Phrases.{IsName, word}
 use Rattle.lido_reader.specs.Items.{is_word, is_word_kind, rule_text}
 use Rattle.lido_reader.specs.Specification.{IsLater}
 use Rattle.lido_lexer.proofs.TablesLemmas.{interned_none, interned_one, interned_append}
 use Rattle.lido_lexer.specs.Tables.{interned}
-use Rattle.lido_reader.specs.Added.{functions, IsAmong, HasAll, is_rule, is_rule_kind, lacks_name, called_names, first_names, rule_names, Keeps, Adds, AddsSome, Owes}
+use Rattle.lido_computations.specs.Functions.{functions, IsAmong, HasAll, Keeps}
+use Rattle.lido_reader.specs.Added.{is_rule, is_rule_kind, lacks_name, called_names, first_names, rule_names, Adds, AddsSome, Owes}
 use Rattle.lido_reader.proofs.TextsLemmas.{gains_text}
 
 -- ---- what is added
@@ -89,67 +88,6 @@ interned_has texts added = record { each = interned_among texts added }
 
 pub has_all_gained : {names old new : List (List ℕ)} → Gains old new → HasAll names old → HasAll names new
 has_all_gained {names} {old} {new} g h = record { each = λ name n. among_gained old new name g (h.each name n) }
-
--- ---- nothing is added
-
-pub keeps_none : (texts : List (List ℕ)) → Keeps texts texts
-keeps_none texts = record { same = λ h. refl }
-
-pub keeps_more : {old new newer : List (List ℕ)} → Keeps old new → Keeps new newer → Keeps old newer
-keeps_more {old} {new} {newer} a b = record { same = λ h. b.same (subst (HasAll functions) (sym (a.same h)) h) ∙ a.same h }
-
--- the name of a function is there
-pub function_kept : (texts : List (List ℕ)) (function : List ℕ) → IsAmong functions function → Keeps texts (with_text texts function)
-function_kept texts function n = record { same = λ h. with_text-present texts function (h.each function n) }
-
-abbrev OperatorAmong : Option (ℕ × List ℕ) → Type 0
-OperatorAmong None = Unit {0}
-OperatorAmong (Some operator) = IsAmong functions operator.1
-
-infix_all : (what : TokenKind) → OperatorAmong (infix_of what)
-infix_all (kind.Sign sign.OrOr) = refl
-infix_all (kind.Sign sign.AndAnd) = refl
-infix_all (kind.Sign sign.EqEq) = refl
-infix_all (kind.Sign sign.NotEq) = refl
-infix_all (kind.Sign sign.Less) = refl
-infix_all (kind.Sign sign.LessEq) = refl
-infix_all (kind.Sign sign.Greater) = refl
-infix_all (kind.Sign sign.GreaterEq) = refl
-infix_all (kind.Sign sign.Plus) = refl
-infix_all (kind.Sign sign.Minus) = refl
-infix_all (kind.Sign sign.Star) = refl
-infix_all (kind.Sign sign.Slash) = refl
-infix_all (kind.Sign sign.Percent) = refl
-infix_all (kind.Sign _) = tt
-infix_all _ = tt
-
--- the functions of the infix operators are among the functions
-pub infix_among : (what : TokenKind) (level : ℕ) (function : List ℕ) → infix_of what ≡ Some (level, function) → IsAmong functions function
-infix_among what level function e = subst OperatorAmong e (infix_all what)
-
-abbrev FunctionAmong : Option (List ℕ) → Type 0
-FunctionAmong None = Unit {0}
-FunctionAmong (Some function) = IsAmong functions function
-
-prefix_all : (what : TokenKind) → FunctionAmong (prefix_of what)
-prefix_all (kind.Sign sign.Minus) = refl
-prefix_all (kind.Sign sign.Bang) = refl
-prefix_all (kind.Sign _) = tt
-prefix_all _ = tt
-
--- and those of the prefix operators
-pub prefix_among : (what : TokenKind) (function : List ℕ) → prefix_of what ≡ Some function → IsAmong functions function
-prefix_among what function e = subst FunctionAmong e (prefix_all what)
-
--- and those of words
-pub if_among : IsAmong functions (codes "IF")
-if_among = refl
-
-pub order_among : IsAmong functions (codes "ORDER")
-order_among = refl
-
-pub null_among : IsAmong functions (codes "PTGNULL")
-null_among = refl
 
 -- ---- the names of rules
 

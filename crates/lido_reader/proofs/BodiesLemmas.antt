@@ -12,12 +12,12 @@ use Rattle.lido_lexer.specs.declared.token.TokenKind.TheVariants as kind
 use Rattle.lido_syntax.specs.declared.spec.Comp.{Comp}
 use Rattle.lido_syntax.specs.declared.spec.Place.{Place}
 use Rattle.lido_syntax.specs.declared.spec.Target.{Target}
-use Rattle.lido_reader.specs.Phrases.{Then, IsName, word}
-use Rattle.lido_reader.specs.Places.{absent, present, IsPlace, named, by_word, context, in_targets}
-use Rattle.lido_reader.specs.Expressions.{infix_of, is_at_least, follows_primary}
-use Rattle.lido_reader.specs.Computations.{is_arrow_kind, continues_computation, IsTarget, attribute, chain_start, IsComputation, assignment, output}
+use Rattle.lido_computations.specs.Phrases.{Then, IsName, word}
+use Rattle.lido_computations.specs.Places.{absent, present, IsPlace, named, by_word, context, in_targets}
+use Rattle.lido_computations.specs.Expressions.{infix_of, is_at_least, follows_primary}
+use Rattle.lido_computations.specs.Computations.{is_arrow_kind, continues_computation, IsTarget, attribute, chain_start, IsComputation, assignment, output}
 use Rattle.lido_reader.specs.Items.{AreComputations, IsBody, IsFurtherComputation, Repeats, is_not_end, is_not_end_kind}
-use Rattle.lido_reader.proofs.PhrasesLemmas.{Completable, Stops, sees_completable, sees_finds, sees_said, sees_some}
+use Rattle.lido_computations.proofs.PhrasesLemmas.{Completable, Stops, sees_completable, sees_finds, sees_said, sees_some}
 use Rattle.lido_reader.proofs.PartsLemmas.{finish, then_finish, Steps, go_on, seen_goes, seen_stops, present_leads, absent_finds, optional_completable}
 use Rattle.lido_reader.proofs.DeclarationsLemmas.{semicolon_completable}
 

@@ -14,9 +14,9 @@ use Rattle.lido_lexer.specs.declared.token.Token.{Token}
 use Rattle.lido_lexer.specs.declared.token.TokenKind.TheVariants as kind
 use Rattle.lido_lexer.specs.declared.token.TokenKind.{TokenKind}
 use Rattle.lido_syntax.specs.declared.spec.Decl.{Decl}
-use Rattle.lido_reader.specs.Phrases.{Then, AreMore, end, is_comma, is_comma_kind, IsName, IsType, type_word, type_of}
+use Rattle.lido_computations.specs.Phrases.{Then, AreMore, end, is_comma, is_comma_kind, IsName, IsType, type_word, type_of}
 use Rattle.lido_reader.specs.Items.{AreNames, IsTerminalType, terminal_type, is_terminal_type, IsSide, unsaid, synt, inh, is_side, is_side_kind, IsDecl, IsFurtherDecl, AreDecls, continues_decls, IsAttr, IsTerm, IsChain}
-use Rattle.lido_reader.proofs.PhrasesLemmas.{Completable, sees_completable, name_completable, type_completable, then_completable, Stops, type_finds, leads_self}
+use Rattle.lido_computations.proofs.PhrasesLemmas.{Completable, sees_completable, name_completable, type_completable, then_completable, Stops, type_finds, leads_self}
 use Rattle.lido_reader.proofs.PartsLemmas.{finish, then_finish, Starts, Steps, seen_stops, repeat_finish, or_left, or_right, seen_goes}
 
 -- ---- a terminal's type

@@ -17,15 +17,15 @@ use Rattle.lido_syntax.specs.declared.spec.Place.{Place}
 use Rattle.lido_syntax.specs.declared.spec.Target.{Target}
 use Rattle.lido_syntax.specs.declared.spec.Target.TheVariants as target
 use Rattle.lido_syntax.specs.declared.spec.Spec.{Spec}
-use Rattle.lido_reader.specs.declared.counts.Counts.{Counts}
-use Rattle.lido_reader.specs.Phrases as phrases
-use Rattle.lido_reader.specs.Phrases.{Done, Then, IsName}
-use Rattle.lido_reader.specs.Places as places
-use Rattle.lido_reader.specs.Places.{IsPlace, IsRead, in_reads, in_targets}
-use Rattle.lido_reader.specs.Expressions as grammar
-use Rattle.lido_reader.specs.Expressions.{IsExpr, IsPrimary, unary_level}
-use Rattle.lido_reader.specs.Computations as computations
-use Rattle.lido_reader.specs.Computations.{IsComputation, IsValue, IsTarget}
+use Rattle.lido_computations.specs.declared.counts.Counts.{Counts}
+use Rattle.lido_computations.specs.Phrases as phrases
+use Rattle.lido_computations.specs.Phrases.{Done, Then, IsName}
+use Rattle.lido_computations.specs.Places as places
+use Rattle.lido_computations.specs.Places.{IsPlace, IsRead, in_reads, in_targets}
+use Rattle.lido_computations.specs.Expressions as grammar
+use Rattle.lido_computations.specs.Expressions.{IsExpr, IsPrimary, unary_level}
+use Rattle.lido_computations.specs.Computations as computations
+use Rattle.lido_computations.specs.Computations.{IsComputation, IsValue, IsTarget}
 use Rattle.lido_reader.specs.Items as items
 use Rattle.lido_reader.specs.Items.{Repeats, AreNames, AreDecls, IsTerminalType, IsFurtherElement, IsBody, IsRule, IsFurtherItem, no_items, called_in}
 use Rattle.lido_reader.specs.Specification.{IsSpecOf}

@@ -12,7 +12,7 @@ use Rattle.lido_lexer.specs.declared.token.TokenKind.TheVariants as kind
 use Rattle.lido_syntax.specs.declared.spec.Comp.{Comp}
 use Rattle.lido_syntax.specs.declared.spec.Spec.{Spec}
 use Rattle.lido_reader.specs.Items.{IsSymbolHead, class, plain, IsRuleItem, IsSymbolItem, IsAttrItem, IsTermItem, IsChainItem, IsFurtherItem, rule, symbol, attr, term, chain, begins_item, begins_item_kind}
-use Rattle.lido_reader.proofs.PhrasesLemmas.{chosen, sees_said, sees_some}
+use Rattle.lido_computations.proofs.PhrasesLemmas.{chosen, sees_said, sees_some}
 use Rattle.lido_reader.proofs.PartsLemmas.{Steps, seen_goes, seen_apart, unseen_head}
 
 -- the item's first word is another one

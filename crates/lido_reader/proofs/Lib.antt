@@ -1,7 +1,3 @@
-pub mod PhrasesLemmas
-pub mod PlacesLemmas
-pub mod ExpressionsLemmas
-pub mod ComputationsLemmas
 pub mod PartsLemmas
 pub mod DeclarationsLemmas
 pub mod RightSidesLemmas

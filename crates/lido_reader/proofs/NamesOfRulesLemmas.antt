@@ -8,9 +8,9 @@ use Rattle.lido_lexer.specs.declared.sign.Sign.TheVariants as sign
 use Rattle.lido_lexer.specs.declared.token.TokenKind.TheVariants as kind
 use Rattle.lido_lexer.specs.declared.token.Token.{Token}
 use Rattle.lido_syntax.specs.declared.spec.Name.{Name}
-use Rattle.lido_reader.specs.Phrases.{Done, Then, IsName, word}
+use Rattle.lido_computations.specs.Phrases.{Done, Then, IsName, word}
 use Rattle.lido_reader.specs.Items.{IsRuleName, is_word, is_word_kind}
-use Rattle.lido_reader.proofs.PhrasesLemmas.{Stops, name_said, name_some, name_finds}
+use Rattle.lido_computations.proofs.PhrasesLemmas.{Stops, name_said, name_some, name_finds}
 use Rattle.lido_reader.proofs.PartsLemmas.{go_on, read_whole, present_leads, absent_finds, seen_stops}
 
 word_goes : (ts us : List Token) (n : Name) → IsName ts n us → GoesOn is_word ts

@@ -7,11 +7,11 @@ use Rattle.lido_base.proofs.ReadingLemmas.{empty_finds, leads_on}
 use Rattle.lido_lexer.specs.Seen.{Sees, token}
 use Rattle.lido_lexer.specs.declared.token.Token.{Token}
 use Rattle.lido_lexer.specs.declared.token.TokenKind.{TokenKind}
-use Rattle.lido_reader.specs.declared.fault.ReadSpecFault.{ReadSpecFault}
-use Rattle.lido_reader.specs.Phrases.{Done, Then, RefusesAt, ReadsSeen}
-use Rattle.lido_reader.specs.Places.{Optional, absent, present}
+use Rattle.lido_computations.specs.declared.fault.ReadSpecFault.{ReadSpecFault}
+use Rattle.lido_computations.specs.Phrases.{Done, Then, RefusesAt, ReadsSeen}
+use Rattle.lido_computations.specs.Places.{Optional, absent, present}
 use Rattle.lido_reader.specs.Items.{Repeats, end, next}
-use Rattle.lido_reader.proofs.PhrasesLemmas.{IsSaidByHead, IsNeverEmpty, Completable, done_completable, then_completable, Stops, never, past, fails, ends, chosen, refused_by}
+use Rattle.lido_computations.proofs.PhrasesLemmas.{IsSaidByHead, IsNeverEmpty, Completable, done_completable, then_completable, Stops, never, past, fails, ends, chosen, refused_by}
 
 -- ---- parts that can be completed, in short
 

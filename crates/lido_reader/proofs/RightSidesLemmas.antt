@@ -11,9 +11,9 @@ use Rattle.lido_lexer.specs.declared.token.TokenKind.{TokenKind}
 use Rattle.lido_lexer.specs.declared.token.TokenKind.TheVariants as kind
 use Rattle.lido_syntax.specs.declared.spec.Element.{Element}
 use Rattle.lido_syntax.specs.declared.spec.Element.TheVariants as element
-use Rattle.lido_reader.specs.Phrases.{Done, Then, word}
+use Rattle.lido_computations.specs.Phrases.{Done, Then, word}
 use Rattle.lido_reader.specs.Items.{Repeats, IsElement, symbol, literal, IsFurtherElement, IsFurtherListed, AreChoices, IsRight, production, listof, is_element, is_element_kind, is_bar, is_bar_kind, continues_right}
-use Rattle.lido_reader.proofs.PhrasesLemmas.{Completable, name_completable, one_finds, IsSaidByHead, IsNeverEmpty, chosen, sees_said, sees_some, sees_completable}
+use Rattle.lido_computations.proofs.PhrasesLemmas.{Completable, name_completable, one_finds, IsSaidByHead, IsNeverEmpty, chosen, sees_said, sees_some, sees_completable}
 use Rattle.lido_reader.proofs.PartsLemmas.{then_finish, finish, Starts, Steps, repeat_finish, or_left, or_right, seen_goes, seen_apart, unseen_head}
 
 -- ---- elements

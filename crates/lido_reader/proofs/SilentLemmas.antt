@@ -17,12 +17,12 @@ use Rattle.lido_syntax.specs.declared.spec.Expr.{Expr}
 use Rattle.lido_syntax.specs.declared.spec.Place.{Place}
 use Rattle.lido_syntax.specs.declared.spec.RuleItem.{RuleItem}
 use Rattle.lido_syntax.specs.declared.spec.Spec.{Spec}
-use Rattle.lido_reader.specs.declared.counts.Counts.{Counts}
-use Rattle.lido_reader.specs.Phrases.{Done, Then, AreMore, end, comma, AreSeparated, IsName, word, type_of, IsType, type_word}
-use Rattle.lido_reader.specs.Places.{Optional, absent, present, AreListed, single, several, IsInt, int, IsIndex, context, in_targets, in_reads, IsPlace, named, by_word, IsRead, IsPair, IsIncluding, IsShield, IsWith, AreConstituents}
-use Rattle.lido_reader.specs.Expressions.{prefix_of, infix_of, constant_of, unary_level, IsExpr, operands, prefix, primary, AreOperands, no_operator, operator, IsPrimary, constant, ptg_null, parenthesized, read, including, constituents, terminal, call, choice, order, AreArguments, none, some, AreSome, first, AreFurther, last, further}
-use Rattle.lido_reader.specs.Computations as grammar
-use Rattle.lido_reader.specs.Computations.{IsDependency, AreMoreDependencies, AreSomeDependencies, AreDependencies, AreAfter, IsTarget, attribute, chain_start, IsComputation, assignment, output}
+use Rattle.lido_computations.specs.declared.counts.Counts.{Counts}
+use Rattle.lido_computations.specs.Phrases.{Done, Then, AreMore, end, comma, AreSeparated, IsName, word, type_of, IsType, type_word}
+use Rattle.lido_computations.specs.Places.{Optional, absent, present, AreListed, single, several, IsInt, int, IsIndex, context, in_targets, in_reads, IsPlace, named, by_word, IsRead, IsPair, IsIncluding, IsShield, IsWith, AreConstituents}
+use Rattle.lido_computations.specs.Expressions.{prefix_of, infix_of, constant_of, unary_level, IsExpr, operands, prefix, primary, AreOperands, no_operator, operator, IsPrimary, constant, ptg_null, parenthesized, read, including, constituents, terminal, call, choice, order, AreArguments, none, some, AreSome, first, AreFurther, last, further}
+use Rattle.lido_computations.specs.Computations as grammar
+use Rattle.lido_computations.specs.Computations.{IsDependency, AreMoreDependencies, AreSomeDependencies, AreDependencies, AreAfter, IsTarget, attribute, chain_start, IsComputation, assignment, output}
 use Rattle.lido_reader.specs.Items as items
 use Rattle.lido_reader.specs.Items.{Repeats, IsTerminalType, terminal_type, AreNames, IsSide, unsaid, synt, inh, IsDecl, AreDecls, IsAttr, IsTerm, IsChain, IsElement, literal, IsRight, production, listof, AreInherited, IsSymbolHead, class, plain, IsBody, IsAbout, declaring, computing, IsSymbol, IsRule, IsRuleName, IsFurtherItem}
 use Rattle.lido_reader.specs.Added.{is_rule_kind, called_names, first_names, rule_names}

@@ -13,15 +13,15 @@ use Rattle.lido_syntax.specs.declared.spec.Expr.{Expr}
 use Rattle.lido_syntax.specs.declared.spec.Expr.TheVariants as expr
 use Rattle.lido_syntax.specs.declared.spec.Target.{Target}
 use Rattle.lido_syntax.specs.declared.spec.Target.TheVariants as target
-use Rattle.lido_reader.specs.Phrases.{Done, Then, IsName, is_comma_kind}
-use Rattle.lido_reader.specs.Places.{IsPlace, in_reads, in_targets, IsRead, IsIncluding, AreConstituents, is_bracket_kind, is_option, is_option_kind}
-use Rattle.lido_reader.specs.Counting.{most_operators}
-use Rattle.lido_reader.specs.Expressions.{infix_of, is_at_least, follows_primary, continues}
-use Rattle.lido_reader.specs.Computations as grammar
-use Rattle.lido_reader.specs.Computations.{IsDependency, AreMoreDependencies, AreSomeDependencies, AreDependencies, AreAfter, IsTarget, IsValue, IsComputation, is_arrow_kind, continues_after, continues_dependencies, continues_computation}
-use Rattle.lido_reader.proofs.PhrasesLemmas.{done_stops as last_stops}
+use Rattle.lido_computations.specs.Phrases.{Done, Then, IsName, is_comma_kind}
+use Rattle.lido_computations.specs.Places.{IsPlace, in_reads, in_targets, IsRead, IsIncluding, AreConstituents, is_bracket_kind, is_option, is_option_kind}
+use Rattle.lido_computations.specs.Counting.{most_operators}
+use Rattle.lido_computations.specs.Expressions.{infix_of, is_at_least, follows_primary, continues}
+use Rattle.lido_computations.specs.Computations as grammar
+use Rattle.lido_computations.specs.Computations.{IsDependency, AreMoreDependencies, AreSomeDependencies, AreDependencies, AreAfter, IsTarget, IsValue, IsComputation, is_arrow_kind, continues_after, continues_dependencies, continues_computation}
+use Rattle.lido_computations.proofs.PhrasesLemmas.{done_stops as last_stops}
 use Rattle.lido_reader.proofs.PartsLemmas.{both, done, seen_stops, seen_goes, done_stops}
-use Rattle.lido_reader.proofs.ComputationsLemmas.{place_apart, keys_apart, further_stops, comma_in_list, dependency_apart, after_wider, value_stops, option_continues, target_apart}
+use Rattle.lido_computations.proofs.ComputationsLemmas.{place_apart, keys_apart, further_stops, comma_in_list, dependency_apart, after_wider, value_stops, option_continues, target_apart}
 use Rattle.lido_reader.proofs.SureLemmas.{Rests, IsOnly, IsSure, done_only, done_sure, then_only, then_sure, lead_only, lead_sure, wide_sure, only_by, optional_sure, sees_only, sees_sure, name_sure}
 use Rattle.lido_reader.proofs.SurePlacesLemmas.{place_sure, read_sure, including_sure, constituents_sure}
 use Rattle.lido_reader.proofs.SureExpressionsLemmas.{expr_only}

@@ -16,18 +16,18 @@ use Rattle.lido_syntax.specs.declared.spec.Expr.{Expr}
 use Rattle.lido_syntax.specs.declared.spec.Expr.TheVariants as expr
 use Rattle.lido_syntax.specs.declared.spec.Place.{Place}
 use Rattle.lido_syntax.specs.declared.spec.Place.TheVariants as place
-use Rattle.lido_reader.specs.Phrases.{Done, Then, IsName, word, is_comma_kind}
-use Rattle.lido_reader.specs.Places.{IsIndex, IsContext, context, IsPlace, named, by_word, in_reads, IsReadOf, IsRead, IsIncludingOf, IsIncluding, AreConstituentsOf, AreConstituents}
-use Rattle.lido_reader.specs.Counting.{spent, numbered}
-use Rattle.lido_reader.specs.Expressions as grammar
-use Rattle.lido_reader.specs.Expressions.{prefix_of, infix_of, constant_of, start_of, continues, is_at_least, follows_primary, unary_level, IsCall, IsExpr, AreOperands, IsPrimary, AreArguments, AreSome, AreFurther}
-use Rattle.lido_reader.specs.Parts as parts
-use Rattle.lido_reader.specs.Parts.{follows, continues_list, Spending, HasFunction, IsNull, IsParenthesized, IsChoice, IsOrder, IsCounted, IsCalled, IsIndexed, IsNamed}
-use Rattle.lido_reader.specs.declared.counts.Counts.{Counts}
-use Rattle.lido_reader.specs.declared.operators.Start.TheVariants as start
-use Rattle.lido_reader.proofs.PhrasesLemmas.{Stops}
+use Rattle.lido_computations.specs.Phrases.{Done, Then, IsName, word, is_comma_kind}
+use Rattle.lido_computations.specs.Places.{IsIndex, IsContext, context, IsPlace, named, by_word, in_reads, IsReadOf, IsRead, IsIncludingOf, IsIncluding, AreConstituentsOf, AreConstituents}
+use Rattle.lido_computations.specs.Counting.{spent, numbered}
+use Rattle.lido_computations.specs.Expressions as grammar
+use Rattle.lido_computations.specs.Expressions.{prefix_of, infix_of, constant_of, start_of, continues, is_at_least, follows_primary, unary_level, IsCall, IsExpr, AreOperands, IsPrimary, AreArguments, AreSome, AreFurther}
+use Rattle.lido_computations.specs.Parts as parts
+use Rattle.lido_computations.specs.Parts.{follows, continues_list, Spending, HasFunction, IsNull, IsParenthesized, IsChoice, IsOrder, IsCounted, IsCalled, IsIndexed, IsNamed}
+use Rattle.lido_computations.specs.declared.counts.Counts.{Counts}
+use Rattle.lido_computations.specs.declared.operators.Start.TheVariants as start
+use Rattle.lido_computations.proofs.PhrasesLemmas.{Stops}
 use Rattle.lido_reader.proofs.PartsLemmas.{both, done, seen_stops, done_stops}
-use Rattle.lido_reader.proofs.ExpressionsLemmas.{follows_wider, option_wider, at_level, constant_start, context_start, led_by, spent_same, opening_follows, dot_follows, bare_before, index_before, spent_called, some_no_close, further_stops, comma_in_list, indexed_stops, level_from, level_stops, operand_stops, operator_from, unary_from, prefix_start, some_from}
+use Rattle.lido_computations.proofs.ExpressionsLemmas.{follows_wider, option_wider, at_level, constant_start, context_start, led_by, spent_same, opening_follows, dot_follows, bare_before, index_before, spent_called, some_no_close, further_stops, comma_in_list, indexed_stops, level_from, level_stops, operand_stops, operator_from, unary_from, prefix_start, some_from}
 use Rattle.lido_reader.proofs.SureLemmas.{Rests, IsOnly, IsSure, done_only, done_sure, then_only, then_sure, lead_only, wide_only, only_by, sees_only, name_sure}
 use Rattle.lido_reader.proofs.SurePlacesLemmas.{index_sure, read_of_sure, read_sure, including_of_sure, constituents_of_sure}
 

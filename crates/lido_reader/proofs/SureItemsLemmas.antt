@@ -18,8 +18,8 @@ use Rattle.lido_syntax.specs.declared.spec.Element.{Element}
 use Rattle.lido_syntax.specs.declared.spec.Element.TheVariants as element
 use Rattle.lido_syntax.specs.declared.spec.SymbolItem.{SymbolItem}
 use Rattle.lido_syntax.specs.declared.spec.Spec.{Spec}
-use Rattle.lido_reader.specs.Phrases.{Done, Then, IsName, word, is_comma}
-use Rattle.lido_reader.specs.Computations.{IsComputation, continues_computation}
+use Rattle.lido_computations.specs.Phrases.{Done, Then, IsName, word, is_comma}
+use Rattle.lido_computations.specs.Computations.{IsComputation, continues_computation}
 use Rattle.lido_reader.specs.Items as grammar
 use Rattle.lido_reader.specs.Items.{Repeats, IsTerminalType, AreNames, IsSide, is_side, is_side_kind, declared, IsDecl, IsFurtherDecl, AreDecls, continues_decls, IsAttr, IsTerm, IsChain, IsElement, IsFurtherElement, is_element, is_element_kind, IsFurtherListed, AreChoices, is_bar, is_bar_kind, IsRight, continues_right, called_in, is_word, AreInherited, is_inherits_kind, continues_inherited, IsSymbolHead, IsRuleName, IsDeclaring, is_not_end, is_not_end_kind, IsFurtherComputation, AreComputations, IsBody, IsComputing, IsAbout, IsSymbol, IsRule, begins_item, no_items, IsRuleItem, IsSymbolItem, IsAttrItem, IsTermItem, IsChainItem, IsFurtherItem, IsSpec}
 use Rattle.lido_reader.specs.Specification.{IsSpecOf}

@@ -11,10 +11,10 @@ use Rattle.lido_lexer.specs.declared.token.TokenKind.{TokenKind}
 use Rattle.lido_lexer.specs.declared.token.TokenKind.TheVariants as kind
 use Rattle.lido_syntax.specs.declared.spec.Name.{Name}
 use Rattle.lido_syntax.specs.declared.spec.Place.{Place}
-use Rattle.lido_reader.specs.Phrases.{Done, Then, AreMore, end, comma, AreSeparated, is_comma, is_comma_kind, IsName, word, type_of, IsType, type_word}
-use Rattle.lido_reader.specs.Places.{Optional, absent, present, AreListed, single, several, IsInt, int, IsContext, context}
+use Rattle.lido_computations.specs.Phrases.{Done, Then, AreMore, end, comma, AreSeparated, is_comma, is_comma_kind, IsName, word, type_of, IsType, type_word}
+use Rattle.lido_computations.specs.Places.{Optional, absent, present, AreListed, single, several, IsInt, int, IsContext, context}
 use Rattle.lido_reader.specs.Items.{Repeats, end as no_step, next}
-use Rattle.lido_reader.proofs.PhrasesLemmas.{Stops, never, IsWider, plain_apart, comma_is_comma, plain_wider}
+use Rattle.lido_computations.proofs.PhrasesLemmas.{Stops, never, IsWider, plain_apart, comma_is_comma, plain_wider}
 use Rattle.lido_reader.proofs.PartsLemmas.{Steps, both, done, seen_stops, repeat_stops}
 
 -- no token comes next that continues the phrase

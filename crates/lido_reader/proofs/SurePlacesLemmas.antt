@@ -8,10 +8,10 @@ use Rattle.lido_lexer.specs.declared.token.TokenKind.TheVariants as kind
 use Rattle.lido_syntax.specs.declared.spec.Name.{Name}
 use Rattle.lido_syntax.specs.declared.spec.Place.{Place}
 use Rattle.lido_syntax.specs.declared.spec.Place.TheVariants as place
-use Rattle.lido_reader.specs.Phrases.{Done, Then, IsName, word}
-use Rattle.lido_reader.specs.Places.{IsIndex, IsContext, context, IsPlace, named, by_word, in_reads, IsReadOf, IsRead, IsPair, IsIncludingOf, IsIncluding, IsShield, IsWithOf, IsWith, AreConstituentsOf, AreConstituents, is_bracket, is_bracket_kind, is_shield, is_shield_kind, is_with, is_with_kind, is_option}
-use Rattle.lido_reader.proofs.PhrasesLemmas.{done_stops as last_stops}
-use Rattle.lido_reader.proofs.PlacesLemmas.{name_apart, pair_apart, shield_stops, with_wider}
+use Rattle.lido_computations.specs.Phrases.{Done, Then, IsName, word}
+use Rattle.lido_computations.specs.Places.{IsIndex, IsContext, context, IsPlace, named, by_word, in_reads, IsReadOf, IsRead, IsPair, IsIncludingOf, IsIncluding, IsShield, IsWithOf, IsWith, AreConstituentsOf, AreConstituents, is_bracket, is_bracket_kind, is_shield, is_shield_kind, is_with, is_with_kind, is_option}
+use Rattle.lido_computations.proofs.PhrasesLemmas.{done_stops as last_stops}
+use Rattle.lido_computations.proofs.PlacesLemmas.{name_apart, pair_apart, shield_stops, with_wider}
 use Rattle.lido_reader.proofs.PartsLemmas.{done_stops, seen_goes, seen_stops}
 use Rattle.lido_reader.proofs.SureLemmas.{Rests, IsOnly, IsSure, done_sure, then_sure, lead_sure, only_by, optional_sure, sees_sure, name_sure, type_sure, int_sure, context_sure, listed_sure}
 

@@ -9,13 +9,13 @@ use Rattle.lido_lexer.specs.declared.token.Token.{Token}
 use Rattle.lido_lexer.specs.declared.token.TokenKind.{TokenKind}
 use Rattle.lido_lexer.specs.declared.token.TokenKind.TheVariants as kind
 use Rattle.lido_syntax.specs.declared.spec.Name.{Name}
-use Rattle.lido_reader.specs.declared.fault.ReadSpecFault.{ReadSpecFault}
+use Rattle.lido_computations.specs.declared.fault.ReadSpecFault.{ReadSpecFault}
 use Rattle.lido_syntax.specs.declared.spec.Comp.{Comp}
 use Rattle.lido_syntax.specs.declared.spec.SymbolItem.{SymbolItem}
-use Rattle.lido_reader.specs.Places.{absent, present}
-use Rattle.lido_reader.specs.Phrases.{Done, Then, AreMore, end, comma, IsName, is_comma, is_comma_kind, RefusesAt}
+use Rattle.lido_computations.specs.Places.{absent, present}
+use Rattle.lido_computations.specs.Phrases.{Done, Then, AreMore, end, comma, IsName, is_comma, is_comma_kind, RefusesAt}
 use Rattle.lido_reader.specs.Items.{IsBody, IsDeclaring, IsComputing, IsAbout, declaring, computing, AreNames, AreInherited, IsSymbolHead, class, plain, is_inherits_kind, continues_inherited, is_declaring, is_declaring_kind}
-use Rattle.lido_reader.proofs.PhrasesLemmas.{Completable, Stops, chosen, refused_by, sees_said, sees_some, sees_finds}
+use Rattle.lido_computations.proofs.PhrasesLemmas.{Completable, Stops, chosen, refused_by, sees_said, sees_some, sees_finds}
 use Rattle.lido_reader.proofs.BodiesLemmas.{seen_not, body_apart, body_stops, body_completable}
 use Rattle.lido_reader.proofs.PartsLemmas.{finish, then_finish, optional_completable, goes_same, goes_back, go_on, widely, or_right, seen_goes, seen_apart, unseen_head, present_leads, absent_finds}
 

@@ -7,13 +7,13 @@ use Rattle.lido_base.specs.Reading.{Finds, Begins, IsFaultPlace}
 use Rattle.lido_base.proofs.ReadingLemmas.{refuses_whole, stops_whole, finds_whole}
 use Rattle.lido_lexer.specs.declared.token.Token.{Token}
 use Rattle.lido_syntax.specs.declared.spec.Spec.{Spec}
-use Rattle.lido_reader.specs.declared.fault.ReadSpecFault.{ReadSpecFault}
-use Rattle.lido_reader.specs.declared.fault.ReadSpecFault.TheVariants.{Syntax, Memory}
-use Rattle.lido_reader.specs.Phrases.{place_of, RefusesAt}
-use Rattle.lido_reader.specs.Computations.{IsComputation}
+use Rattle.lido_computations.specs.declared.fault.ReadSpecFault.{ReadSpecFault}
+use Rattle.lido_computations.specs.declared.fault.ReadSpecFault.TheVariants.{Syntax, Memory}
+use Rattle.lido_computations.specs.Phrases.{place_of, RefusesAt}
+use Rattle.lido_computations.specs.Computations.{IsComputation}
 use Rattle.lido_reader.specs.Items.{Repeats, IsFurtherItem, IsSpec, begins_item, called_in, no_items}
 use Rattle.lido_reader.specs.Specification.{IsSpecOf, IsSpecification, IsReading}
-use Rattle.lido_reader.proofs.PhrasesLemmas.{leads_self}
+use Rattle.lido_computations.proofs.PhrasesLemmas.{leads_self}
 use Rattle.lido_reader.proofs.PartsLemmas.{go_past, stuck_in, read_whole, done_stops, finish}
 
 -- ---- one fault place at most, and none in a list of the language

@@ -1,29 +1,14 @@
 -- Which texts a reader of specifications adds to the table: the names of the rules that have none, once the names of all functions
 -- that operators and words stand for are there.
-use Rattle.std.specs.Prelude.{◌≡◌, ℕ, ◌+◌, Bool, true, false, not, IsTrue, if◌then◌else◌, List, [], ◌∷◌, ◌++◌, codes}
-use Rattle.std.specs.List.{list_any}
-use Rattle.std.specs.Str.{bytes_eq}
-use Rattle.lido_base.specs.Texts.{with_text}
+use Rattle.std.specs.Prelude.{◌≡◌, ℕ, ◌+◌, Bool, true, false, not, if◌then◌else◌, List, [], ◌∷◌, ◌++◌}
 use Rattle.lido_lexer.specs.Lexing.{Gains}
 use Rattle.lido_lexer.specs.Tables.{interned}
 use Rattle.lido_lexer.specs.declared.keyword.Keyword.TheVariants as key
 use Rattle.lido_lexer.specs.declared.token.Token.{Token}
 use Rattle.lido_lexer.specs.declared.token.TokenKind.{TokenKind}
 use Rattle.lido_lexer.specs.declared.token.TokenKind.TheVariants as kind
+use Rattle.lido_computations.specs.Functions.{HasAll, functions}
 use Rattle.lido_reader.specs.Items.{is_word, rule_text}
-
--- the functions that operators, IF, ORDER and PTGNULL stand for
-abbrev pub functions : List (List ℕ)
-functions = codes "OR" ∷ codes "AND" ∷ codes "EQ" ∷ codes "NE" ∷ codes "LT" ∷ codes "LE" ∷ codes "GT" ∷ codes "GE" ∷ codes "ADD" ∷ codes "SUB" ∷ codes "MUL" ∷ codes "DIV" ∷ codes "MOD"
-    ∷ codes "NEG" ∷ codes "NOT" ∷ codes "IF" ∷ codes "ORDER" ∷ codes "PTGNULL" ∷ []
-
--- the text stands among the texts
-abbrev pub IsAmong : List (List ℕ) → List ℕ → Type 0
-IsAmong texts text = IsTrue (list_any (bytes_eq text) texts)
-
--- Each of the names stands among the texts.
-pub record HasAll (names texts : List (List ℕ)) : Type 0 where
-  pub each : (name : List ℕ) → IsAmong names name → IsAmong texts name
 
 abbrev pub is_rule_kind : TokenKind → Bool
 is_rule_kind (kind.Key key.Rule) = true
@@ -51,10 +36,6 @@ first_names k (t ∷ ts) = if is_rule t then called_names k ts else []
 unfoldable pub rule_names : ℕ → List Token → List (List ℕ)
 rule_names k [] = []
 rule_names k (t ∷ ts) = if is_rule t then (called_names k ts ++ rule_names (k + 1) ts) else rule_names k ts
-
--- Where the names of all functions stand among the texts, none was added.
-pub record Keeps (old new : List (List ℕ)) : Type 0 where
-  pub same : HasAll functions old → new ≡ old
 
 -- Where the names of all functions stand among the texts, these names were added and no others.
 pub record Adds (names old new : List (List ℕ)) : Type 0 where

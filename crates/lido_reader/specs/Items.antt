@@ -25,8 +25,8 @@ use Rattle.lido_syntax.specs.declared.spec.Element.TheVariants as element
 use Rattle.lido_syntax.specs.declared.spec.RuleItem.{RuleItem}
 use Rattle.lido_syntax.specs.declared.spec.SymbolItem.{SymbolItem}
 use Rattle.lido_syntax.specs.declared.spec.Spec.{Spec}
-use Rattle.lido_reader.specs.Places.{Optional}
-use Rattle.lido_reader.specs.Phrases.{Done, Then, IsName, IsType, AreMore, AreSeparated, is_comma_kind}
+use Rattle.lido_computations.specs.Places.{Optional}
+use Rattle.lido_computations.specs.Phrases.{Done, Then, IsName, IsType, AreMore, AreSeparated, is_comma_kind}
 
 -- ---- steps one behind the other
 

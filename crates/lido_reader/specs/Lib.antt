@@ -1,9 +1,3 @@
-pub mod Phrases
-pub mod Counting
-pub mod Places
-pub mod Expressions
-pub mod Parts
-pub mod Computations
 pub mod Items
 pub mod Specification
 pub mod Found

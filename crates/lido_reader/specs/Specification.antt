@@ -5,11 +5,11 @@ use Rattle.lido_base.specs.Texts.{IsDistinctTexts}
 use Rattle.lido_lexer.specs.Lexing.{Gains}
 use Rattle.lido_lexer.specs.declared.token.Token.{Token}
 use Rattle.lido_syntax.specs.declared.spec.Spec.{Spec}
-use Rattle.lido_reader.specs.declared.fault.ReadSpecFault.{ReadSpecFault}
-use Rattle.lido_reader.specs.declared.fault.ReadSpecFault.TheVariants.{Syntax, Memory}
-use Rattle.lido_reader.specs.Phrases.{place_of}
+use Rattle.lido_computations.specs.declared.fault.ReadSpecFault.{ReadSpecFault}
+use Rattle.lido_computations.specs.declared.fault.ReadSpecFault.TheVariants.{Syntax, Memory}
+use Rattle.lido_computations.specs.Phrases.{place_of}
 use Rattle.lido_reader.specs.Items.{IsSpec, called_in}
-use Rattle.lido_reader.specs.Computations.{IsComputation}
+use Rattle.lido_computations.specs.Computations.{IsComputation}
 
 -- these texts, and maybe more behind them, none twice
 pub record IsLater (texts later : List (List ℕ)) : Type 0 where

@@ -2,16 +2,16 @@
 ghost use Rattle.std.specs.Prelude.{◌≡◌, ◌+◌, ◌<◌, ◌≤◌, ◌↔◌, [], List, ℕ, IsTrue, length, IfOk};
 ghost use Rattle.lido_base.specs.Reading.{GoesOn, nothing};
 ghost use Rattle.lido_lexer.specs.Lexing.{Gains};
-ghost use Rattle.lido_reader.specs.Added.{Keeps};
-ghost use Rattle.lido_reader.specs.Computations.{IsComputation};
+ghost use Rattle.lido_computations.specs.Functions.{Keeps};
+ghost use Rattle.lido_computations.specs.Computations.{IsComputation};
 ghost use Rattle.lido_reader.specs.Items.{AreComputations, IsBody, IsFurtherComputation, Repeats, is_not_end};
-ghost use Rattle.lido_reader.specs.Phrases.{ReadsSeen};
+ghost use Rattle.lido_computations.specs.Phrases.{ReadsSeen};
 ghost use Rattle.lido_reader.specs.Specification.{IsLater};
 
 use crate::ReadSpecFault;
-use crate::computations::computation;
-use crate::names::{after_key, keyword, sign};
 use lido_base::Strings;
+use lido_computations::computation;
+use lido_computations::names::{after_key, keyword, sign};
 use lido_lexer::{Keyword, Sign, Token, is_key, next};
 use lido_syntax::Comp;
 use std::alloc::Global;

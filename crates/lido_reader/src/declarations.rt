@@ -2,11 +2,13 @@
 ghost use Rattle.std.specs.Prelude.{◌≡◌, ◌<◌, ◌≤◌, length, IfOk, IfErr, IsTrue};
 ghost use Rattle.lido_base.specs.Reading.{nothing, Finds};
 ghost use Rattle.lido_reader.specs.Items.{AreDecls, IsAttr, IsChain, IsDecl, IsSide, IsTerm, IsTerminalType, continues_decls, declared, is_side, is_terminal_type, typed};
-ghost use Rattle.lido_reader.specs.Phrases.{ReadsSeen};
+ghost use Rattle.lido_computations.specs.Phrases.{ReadsSeen};
 
 use crate::ReadSpecFault;
-use crate::names::{after_key, after_sign, after_type, keyword, names, sign, stop, value_type};
 use lido_base::{Kind, ValueType};
+use lido_computations::names::{
+    after_key, after_sign, after_type, keyword, names, sign, stop, value_type,
+};
 use lido_lexer::{Keyword, Sign, Token};
 use lido_syntax::{Decl, Name, Typed1};
 use std::alloc::Global;

@@ -3,7 +3,7 @@ ghost use Rattle.std.specs.Prelude.{◌≡◌, List, ℕ, map, OnOk};
 ghost use Rattle.std.specs.Borrow.{Bor};
 ghost use Rattle.lido_lexer.specs.Lexing.{Gains};
 ghost use Rattle.lido_lexer.specs.Tables.{interned};
-ghost use Rattle.lido_reader.specs.Added.{HasAll, functions};
+ghost use Rattle.lido_computations.specs.Functions.{HasAll, functions};
 
 use lido_base::{Memory, Strings};
 

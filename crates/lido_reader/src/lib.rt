@@ -2,17 +2,10 @@
 #![tactic(auto)]
 
 mod bodies;
-mod computations;
-mod counts;
 mod declarations;
-mod expressions;
-mod fault;
 mod functions;
 mod items;
 pub mod laws;
-mod names;
-mod operators;
-mod places;
 mod right_sides;
 mod rule_names;
 mod rules;
@@ -21,6 +14,6 @@ mod symbols;
 #[cfg(test)]
 mod tests;
 
-pub use fault::ReadSpecFault;
 pub use functions::intern_functions;
+pub use lido_computations::ReadSpecFault;
 pub use specification::read_spec;

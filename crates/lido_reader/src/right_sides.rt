@@ -2,10 +2,10 @@
 ghost use Rattle.std.specs.Prelude.{◌≡◌, ◌<◌, ◌≤◌, [], length, IfOk, IfErr, IfSome};
 ghost use Rattle.lido_base.specs.Reading.{Finds};
 ghost use Rattle.lido_reader.specs.Items.{AreChoices, IsElement, IsFurtherElement, IsRight, Repeats, continues_right, is_bar, is_element};
-ghost use Rattle.lido_reader.specs.Phrases.{LooksAhead, ReadsSeen};
+ghost use Rattle.lido_computations.specs.Phrases.{LooksAhead, ReadsSeen};
 
 use crate::ReadSpecFault;
-use crate::names::{after_sign, keyword, name};
+use lido_computations::names::{after_sign, keyword, name};
 use lido_lexer::{Keyword, Sign, Token, TokenKind, next};
 use lido_syntax::{Element, Name};
 use std::alloc::Global;

@@ -9,8 +9,8 @@ ghost use Rattle.lido_reader.specs.Items.{IsRuleName, called_in, is_word, rule_t
 ghost use Rattle.lido_reader.specs.Specification.{IsLater};
 
 use crate::ReadSpecFault;
-use crate::names::after_name;
 use lido_base::{StrId, Strings};
+use lido_computations::names::after_name;
 use lido_lexer::Token;
 use std::alloc::{AllocError, Global};
 

@@ -3,17 +3,17 @@ ghost use Rattle.std.specs.Prelude.{◌≡◌, ◌+◌, ◌<◌, ◌≤◌, List
 ghost use Rattle.lido_base.specs.Reading.{nothing};
 ghost use Rattle.lido_lexer.specs.Lexing.{Gains};
 ghost use Rattle.lido_reader.specs.Added.{Adds, AddsSome, first_names};
-ghost use Rattle.lido_reader.specs.Computations.{IsComputation};
+ghost use Rattle.lido_computations.specs.Computations.{IsComputation};
 ghost use Rattle.lido_reader.specs.Items.{IsRule, called_in};
-ghost use Rattle.lido_reader.specs.Phrases.{ReadsSeen};
+ghost use Rattle.lido_computations.specs.Phrases.{ReadsSeen};
 ghost use Rattle.lido_reader.specs.Specification.{IsLater};
 
 use crate::ReadSpecFault;
 use crate::bodies::body;
-use crate::names::{keyword, name, sign};
 use crate::right_sides::right_side;
 use crate::rule_names::rule_name;
 use lido_base::{List, Strings};
+use lido_computations::names::{keyword, name, sign};
 use lido_lexer::{Keyword, Sign, Token};
 use lido_syntax::RuleItem;
 use std::alloc::Global;

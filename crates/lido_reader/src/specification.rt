@@ -3,7 +3,8 @@ ghost use Rattle.std.specs.Prelude.{◌≡◌, ◌+◌, ◌≤◌, List as Seque
 ghost use Rattle.lido_base.specs.Phases.{Gives};
 ghost use Rattle.lido_lexer.specs.Lexing.{Gains};
 ghost use Rattle.lido_lexer.specs.Tables.{interned};
-ghost use Rattle.lido_reader.specs.Added.{HasAll, functions, rule_names};
+ghost use Rattle.lido_computations.specs.Functions.{HasAll, functions};
+ghost use Rattle.lido_reader.specs.Added.{rule_names};
 ghost use Rattle.lido_reader.specs.Specification.{IsLater, IsReading};
 
 use crate::ReadSpecFault;

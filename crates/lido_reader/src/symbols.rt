@@ -2,17 +2,17 @@
 ghost use Rattle.std.specs.Prelude.{◌≡◌, ◌+◌, ◌<◌, ◌≤◌, ◌∷◌, [], ◌↔◌, List as Sequence, ℕ, IsTrue, length, IfOk};
 ghost use Rattle.lido_base.specs.Reading.{GoesOn, nothing};
 ghost use Rattle.lido_lexer.specs.Lexing.{Gains};
-ghost use Rattle.lido_reader.specs.Added.{Keeps};
-ghost use Rattle.lido_reader.specs.Computations.{IsComputation};
+ghost use Rattle.lido_computations.specs.Functions.{Keeps};
+ghost use Rattle.lido_computations.specs.Computations.{IsComputation};
 ghost use Rattle.lido_reader.specs.Items.{AreInherited, IsAbout, IsComputing, IsDeclaring, IsSymbol, IsSymbolHead, continues_inherited, is_declaring};
-ghost use Rattle.lido_reader.specs.Phrases.{AreMore, IsName, ReadsSeen, is_comma};
+ghost use Rattle.lido_computations.specs.Phrases.{AreMore, IsName, ReadsSeen, is_comma};
 ghost use Rattle.lido_reader.specs.Specification.{IsLater};
 
 use crate::ReadSpecFault;
 use crate::bodies::body;
 use crate::declarations::decls;
-use crate::names::{after_key, after_sign, keyword, name, names, sign};
 use lido_base::{List, Strings};
+use lido_computations::names::{after_key, after_sign, keyword, name, names, sign};
 use lido_lexer::{Keyword, Sign, Token, is_sign, next};
 use lido_syntax::{Name, SymbolItem};
 use std::alloc::Global;

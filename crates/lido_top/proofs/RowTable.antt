@@ -7,7 +7,8 @@ use Rattle.lido_lexer.specs.declared.token.TokenKind.{TokenKind}
 use Rattle.lido_lexer.specs.declared.token.TokenKind.TheVariants as kind
 use Rattle.lido_lexer.specs.Lexing.{shown_in, HasText}
 use Rattle.lido_lexer.specs.Tables.{interned, texts_in}
-use Rattle.lido_reader.specs.Added.{functions, rule_names}
+use Rattle.lido_computations.specs.Functions.{functions}
+use Rattle.lido_reader.specs.Added.{rule_names}
 use Rattle.lido_reader.specs.Specification.{IsSpecOf, IsReading}
 use Rattle.lido_reader.proofs.ExampleTree.{ADD, spelled, spec}
 use Rattle.lido_reader.proofs.ExampleSyntax.{is_spec}

@@ -10,7 +10,7 @@ use Rattle.lido_lexer.specs.Signs.{begins_comment, sign_of}
 use Rattle.lido_lexer.specs.Tokens.{Shown, Word, Key, Int, Literal, Sign, IsFront}
 use Rattle.lido_lexer.specs.Lexing.{Placed, placed, Lexes, ended, after_gap, with_token, Lexing, shown_in}
 use Rattle.lido_lexer.specs.Tables.{LexedFrom}
-use Rattle.lido_reader.specs.Added.{functions}
+use Rattle.lido_computations.specs.Functions.{functions}
 use Rattle.lido_top.specs.Answer.{part}
 use Rattle.lido_top.proofs.RowText.{job, sections}
 use Rattle.lido_reader.proofs.ExampleTree.{spelled}

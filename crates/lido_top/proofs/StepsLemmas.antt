@@ -4,7 +4,7 @@ use Rattle.lido_base.specs.Phases.{IsThe, OneOf, Then, Gives}
 use Rattle.lido_base.specs.declared.pattern.Pattern.{Pattern}
 use Rattle.lido_lexer.specs.declared.token.Token.{Token}
 use Rattle.lido_syntax.specs.declared.spec.Spec.{Spec}
-use Rattle.lido_reader.specs.Added.{HasAll, IsAmong, functions}
+use Rattle.lido_computations.specs.Functions.{HasAll, IsAmong, functions}
 use Rattle.job_text.specs.declared.cutting.Sections.{Sections}
 use Rattle.order_report.specs.declared.status.Status.{Status}
 use Rattle.lido_base.proofs.PhasesLemmas.{the_one_of, one_as, none_as}

@@ -2,7 +2,7 @@
 ghost use Rattle.std.specs.Prelude.{◌≡◌, ◌≤◌, length, IfOk, IfErr, OnOk};
 ghost use Rattle.lido_base.specs.Inputs.{most};
 ghost use Rattle.lido_base.specs.Phases.{Gives};
-ghost use Rattle.lido_reader.specs.Added.{HasAll, functions};
+ghost use Rattle.lido_computations.specs.Functions.{HasAll, functions};
 ghost use Rattle.order_report.specs.declared.status.Status.{Status};
 ghost use Rattle.lido_top.specs.Refusals.{IsRefusal};
 ghost use Rattle.lido_top.specs.Answer.{IsWithin, part, behind_spec, PatternsOf, SectionsOf, SyntaxOf, TokensOf};

@@ -1,8 +1,8 @@
 use Rattle.std.proofs.lemmas.Result.{err_from_is_err_and}
 use Rattle.lido_base.specs.Reading.{nothing}
-use Rattle.lido_reader.specs.Computations.{IsComputation}
+use Rattle.lido_computations.specs.Computations.{IsComputation}
 use Rattle.lido_reader.specs.Items.{IsBody}
-use Rattle.lido_reader.proofs.PhrasesLemmas.{leads_self}
+use Rattle.lido_computations.proofs.PhrasesLemmas.{leads_self}
 use Rattle.lido_reader.proofs.PartsLemmas.{finish, then_finish, go_on, go_past, stuck_at, stuck_in, read_whole}
 use Rattle.lido_reader.proofs.DeclarationsLemmas.{semicolon_completable}
 use Rattle.lido_reader.proofs.BodiesLemmas.{end_stops, end_completable}

@@ -5,14 +5,14 @@ use Rattle.std.proofs.lemmas.Result.{err_from_is_err_and}
 use Rattle.lido_base.specs.Reading.{nothing}
 use Rattle.lido_lexer.proofs.Reading.{gains_none, gains_more}
 use Rattle.lido_syntax.specs.declared.spec.Comp.{Comp}
-use Rattle.lido_reader.specs.Computations.{IsComputation}
+use Rattle.lido_computations.specs.Computations.{IsComputation}
 use Rattle.lido_reader.specs.Items.{IsFurtherComputation, Repeats, is_not_end}
-use Rattle.lido_reader.proofs.PhrasesLemmas.{leads_self}
+use Rattle.lido_computations.proofs.PhrasesLemmas.{leads_self}
 use Rattle.lido_reader.proofs.PartsLemmas.{finish, then_finish, go_on, go_past, stuck_at, stuck_in, read_whole, repeat_found, repeat_stuck, repeat_ends}
 use Rattle.lido_reader.proofs.DeclarationsLemmas.{semicolon_completable}
 use Rattle.lido_reader.proofs.TextsLemmas.{later_of}
 use Rattle.lido_reader.proofs.BodiesLemmas.{computation_steps, semicolon_computations}
-use Rattle.lido_reader.proofs.AddedLemmas.{keeps_none, keeps_more}
+use Rattle.lido_computations.proofs.FunctionsLemmas.{keeps_none, keeps_more}
 use Rattle.lido_reader.proofs.bodies.computations.Goals as goal
 
 pub loop-alloc-init : goal.loop-alloc-init

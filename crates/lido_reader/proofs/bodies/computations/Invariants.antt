@@ -2,8 +2,8 @@ use Rattle.std.specs.Prelude.{ℕ, List, []}
 use Rattle.std.proofs.Common.{length, ◌+◌, ◌≤◌}
 use Rattle.lido_base.specs.Reading.{Leads}
 use Rattle.lido_lexer.specs.Lexing.{Gains}
-use Rattle.lido_reader.specs.Added.{Keeps}
-use Rattle.lido_reader.specs.Computations.{IsComputation}
+use Rattle.lido_computations.specs.Functions.{Keeps}
+use Rattle.lido_computations.specs.Computations.{IsComputation}
 use Rattle.lido_reader.specs.Items.{IsFurtherComputation, Repeats, is_not_end}
 use Rattle.lido_reader.specs.Specification.{IsLater}
 use Rattle.lido_reader.proofs.bodies.computations.Given as goal

@@ -1,10 +1,10 @@
 use Rattle.std.specs.Prelude.{◌≡◌, []}
 use Rattle.std.proofs.lemmas.Result.{err_from_is_err_and}
-use Rattle.lido_reader.specs.Computations.{IsComputation}
+use Rattle.lido_computations.specs.Computations.{IsComputation}
 use Rattle.lido_reader.specs.Items.{AreComputations, IsFurtherComputation, Repeats, is_not_end}
-use Rattle.lido_reader.proofs.PhrasesLemmas.{refused_by}
+use Rattle.lido_computations.proofs.PhrasesLemmas.{refused_by}
 use Rattle.lido_reader.proofs.BodiesLemmas.{computed_leads, computed_none}
-use Rattle.lido_reader.proofs.AddedLemmas.{keeps_none}
+use Rattle.lido_computations.proofs.FunctionsLemmas.{keeps_none}
 use Rattle.lido_reader.proofs.bodies.computed.Goals as goal
 
 pub returns-in_default-clause-reads : goal.returns-in_default-clause-reads

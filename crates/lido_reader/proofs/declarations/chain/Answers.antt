@@ -4,7 +4,7 @@ use Rattle.std.proofs.lemmas.Result.{err_from_is_err_and}
 use Rattle.lido_base.specs.Reading.{nothing}
 use Rattle.lido_syntax.specs.declared.spec.Name.{Name}
 use Rattle.lido_reader.specs.Items.{IsChain, typed}
-use Rattle.lido_reader.proofs.PhrasesLemmas.{no_memory, type_completable}
+use Rattle.lido_computations.proofs.PhrasesLemmas.{no_memory, type_completable}
 use Rattle.lido_reader.proofs.PartsLemmas.{finish, then_finish, go_on, go_past, stuck_at, stuck_in, read_whole}
 use Rattle.lido_reader.proofs.DeclarationsLemmas.{chain_begins, colon_stops, colon_completable, semicolon_completable, names_completable}
 use Rattle.lido_reader.proofs.declarations.chain.Goals as goal

@@ -4,7 +4,7 @@ use Rattle.std.proofs.lemmas.Result.{err_from_is_err_and}
 use Rattle.lido_syntax.specs.declared.spec.Name.{Name}
 use Rattle.std.specs.Prelude.{List}
 use Rattle.lido_reader.specs.Items.{IsDecl, is_side, declared}
-use Rattle.lido_reader.proofs.PhrasesLemmas.{type_completable, no_memory}
+use Rattle.lido_computations.proofs.PhrasesLemmas.{type_completable, no_memory}
 use Rattle.lido_reader.proofs.PartsLemmas.{finish, then_finish, go_on, go_past, stuck_at, stuck_in, read_whole, done_stops}
 use Rattle.lido_reader.proofs.DeclarationsLemmas.{decl_begins, colon_stops, colon_completable, side_completable}
 use Rattle.lido_reader.proofs.declarations.decl.Goals as goal

@@ -6,9 +6,9 @@ use Rattle.lido_base.specs.Reading.{nothing}
 use Rattle.lido_lexer.specs.declared.sign.Sign.TheVariants as sign
 use Rattle.lido_lexer.specs.declared.token.TokenKind.TheVariants as kind
 use Rattle.lido_syntax.specs.declared.spec.Decl.{Decl}
-use Rattle.lido_reader.specs.Phrases.{is_comma_kind}
+use Rattle.lido_computations.specs.Phrases.{is_comma_kind}
 use Rattle.lido_reader.specs.Items.{is_side}
-use Rattle.lido_reader.proofs.PhrasesLemmas.{sees_finds}
+use Rattle.lido_computations.proofs.PhrasesLemmas.{sees_finds}
 use Rattle.lido_reader.proofs.PartsLemmas.{finish, go_on, go_past, stuck_in, read_whole, done_stops, repeat_stops, repeat_finish, repeat_found, repeat_stuck, repeat_ends, seen_goes, unseen_stops}
 use Rattle.lido_reader.proofs.DeclarationsLemmas.{decls_begin, decl_steps, further_begins, comma_only}
 use Rattle.lido_reader.proofs.declarations.decls.Goals as goal

@@ -1,4 +1,4 @@
-use Rattle.lido_reader.specs.Added.{functions}
+use Rattle.lido_computations.specs.Functions.{functions}
 use Rattle.lido_reader.proofs.AddedLemmas.{has_added}
 use Rattle.lido_reader.proofs.functions.intern_functions.Goals as goal
 

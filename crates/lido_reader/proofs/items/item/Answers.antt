@@ -1,10 +1,11 @@
-use Rattle.lido_reader.specs.Computations.{IsComputation}
+use Rattle.lido_computations.specs.Computations.{IsComputation}
 use Rattle.lido_reader.specs.Found.{found_in}
 use Rattle.lido_reader.specs.Items.{called_in}
 use Rattle.lido_reader.proofs.PartsLemmas.{reads_by}
 use Rattle.lido_reader.proofs.ItemsLemmas.{rule_leads, attr_leads, term_leads, chain_leads, symbol_leads}
 use Rattle.std.specs.Prelude.{refl}
-use Rattle.lido_reader.proofs.AddedLemmas.{keeps_none, first_none, on_ok, some_of_same, some_of_all, adds_nothing}
+use Rattle.lido_computations.proofs.FunctionsLemmas.{keeps_none}
+use Rattle.lido_reader.proofs.AddedLemmas.{first_none, on_ok, some_of_same, some_of_all, adds_nothing}
 use Rattle.lido_reader.proofs.items.item.Goals as goal
 
 pub returns-then-has_key-clause-reads : goal.returns-then-has_key-clause-reads

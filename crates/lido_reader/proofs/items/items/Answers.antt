@@ -4,9 +4,9 @@ use Rattle.std.proofs.lemmas.Grind.{common_steps}
 use Rattle.std.proofs.lemmas.Result.{err_from_is_err_and}
 use Rattle.lido_lexer.proofs.Reading.{gains_none, gains_more}
 use Rattle.lido_reader.specs.Found.{found_in}
-use Rattle.lido_reader.specs.Computations.{IsComputation}
+use Rattle.lido_computations.specs.Computations.{IsComputation}
 use Rattle.lido_reader.specs.Items.{IsFurtherItem, Repeats, begins_item, called_in, no_items}
-use Rattle.lido_reader.proofs.PhrasesLemmas.{leads_self}
+use Rattle.lido_computations.proofs.PhrasesLemmas.{leads_self}
 use Rattle.lido_reader.proofs.PartsLemmas.{repeat_found, repeat_stuck, repeat_ends}
 use Rattle.lido_reader.proofs.TextsLemmas.{later_of}
 use Rattle.lido_reader.proofs.ItemsLemmas.{item_steps}

@@ -3,7 +3,7 @@ use Rattle.std.proofs.Common.{length, ◌+◌, ◌≤◌}
 use Rattle.lido_base.specs.Reading.{Leads}
 use Rattle.lido_lexer.specs.Lexing.{Gains}
 use Rattle.lido_reader.specs.Added.{Owes}
-use Rattle.lido_reader.specs.Computations.{IsComputation}
+use Rattle.lido_computations.specs.Computations.{IsComputation}
 use Rattle.lido_reader.specs.Found.{found_in}
 use Rattle.lido_reader.specs.Items.{IsFurtherItem, Repeats, begins_item, called_in, no_items}
 use Rattle.lido_reader.specs.Specification.{IsLater}

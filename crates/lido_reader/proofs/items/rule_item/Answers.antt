@@ -1,7 +1,7 @@
 use Rattle.std.specs.Prelude.{◌≡◌, ℕ, ◌∷◌, [], ◌++◌}
 use Rattle.std.proofs.lemmas.Result.{err_from_is_err_and}
 use Rattle.lido_base.specs.Reading.{nothing}
-use Rattle.lido_reader.specs.Computations.{IsComputation}
+use Rattle.lido_computations.specs.Computations.{IsComputation}
 use Rattle.lido_reader.specs.Found.{found_in}
 use Rattle.lido_reader.specs.Items.{IsRuleItem, called_in}
 use Rattle.std.specs.Prelude.{length, ◌+◌}
@@ -9,8 +9,8 @@ use Rattle.std.proofs.Common.{subst, arith}
 use Rattle.std.proofs.lemmas.Grind.{common_steps}
 use Rattle.lido_base.specs.Reading.{Finds}
 use Rattle.lido_reader.specs.Items.{IsRule}
-use Rattle.lido_reader.specs.Phrases.{RefusesAt}
-use Rattle.lido_reader.proofs.PhrasesLemmas.{leads_self}
+use Rattle.lido_computations.specs.Phrases.{RefusesAt}
+use Rattle.lido_computations.proofs.PhrasesLemmas.{leads_self}
 use Rattle.lido_reader.proofs.PartsLemmas.{finish, go_on, stuck_at, read_whole}
 use Rattle.lido_reader.specs.Added.{Adds, AddsSome, first_names}
 use Rattle.lido_reader.proofs.AddedLemmas.{some_of_all}

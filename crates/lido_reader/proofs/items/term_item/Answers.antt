@@ -1,10 +1,10 @@
 use Rattle.std.specs.Prelude.{◌≡◌, ◌++◌}
 use Rattle.std.proofs.lemmas.Result.{err_from_is_err_and}
 use Rattle.lido_base.specs.Reading.{nothing}
-use Rattle.lido_reader.specs.Computations.{IsComputation}
+use Rattle.lido_computations.specs.Computations.{IsComputation}
 use Rattle.lido_reader.specs.Found.{found_in}
 use Rattle.lido_reader.specs.Items.{IsTermItem, called_in}
-use Rattle.lido_reader.proofs.PhrasesLemmas.{leads_self}
+use Rattle.lido_computations.proofs.PhrasesLemmas.{leads_self}
 use Rattle.lido_reader.proofs.PartsLemmas.{finish, go_on, stuck_at, read_whole}
 use Rattle.lido_reader.proofs.items.term_item.Goals as goal
 

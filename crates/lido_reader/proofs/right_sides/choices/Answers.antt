@@ -7,7 +7,7 @@ use Rattle.lido_lexer.specs.declared.sign.Sign.TheVariants as sign
 use Rattle.lido_lexer.specs.declared.token.TokenKind.TheVariants as kind
 use Rattle.lido_syntax.specs.declared.spec.Element.TheVariants as element
 use Rattle.lido_reader.specs.Items.{AreChoices, IsFurtherListed, is_bar, is_bar_kind}
-use Rattle.lido_reader.proofs.PhrasesLemmas.{leads_self, sees_finds}
+use Rattle.lido_computations.proofs.PhrasesLemmas.{leads_self, sees_finds}
 use Rattle.lido_reader.proofs.PartsLemmas.{finish, go_on, stuck_at, read_whole, repeat_finish, repeat_found, repeat_stuck, repeat_ends, seen_goes, unseen_stops}
 use Rattle.lido_reader.proofs.RightSidesLemmas.{bar_steps, bar_only}
 use Rattle.lido_reader.proofs.right_sides.choices.Goals as goal

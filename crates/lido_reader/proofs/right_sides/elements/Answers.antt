@@ -3,7 +3,7 @@ use Rattle.std.proofs.Common.{arith}
 use Rattle.std.proofs.lemmas.Grind.{common_steps}
 use Rattle.lido_base.specs.Reading.{nothing}
 use Rattle.lido_reader.specs.Items.{IsFurtherElement, Repeats, is_element}
-use Rattle.lido_reader.proofs.PhrasesLemmas.{leads_self}
+use Rattle.lido_computations.proofs.PhrasesLemmas.{leads_self}
 use Rattle.lido_reader.proofs.PartsLemmas.{go_on, read_whole, repeat_found, repeat_ends}
 use Rattle.lido_reader.proofs.RightSidesLemmas.{element_steps, element_finds, element_goes, no_element_stops}
 use Rattle.lido_reader.proofs.right_sides.elements.Goals as goal

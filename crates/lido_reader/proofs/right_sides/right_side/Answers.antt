@@ -5,7 +5,7 @@ use Rattle.lido_base.specs.Reading.{nothing}
 use Rattle.lido_lexer.specs.declared.sign.Sign.TheVariants as sign
 use Rattle.lido_lexer.specs.declared.token.TokenKind.TheVariants as kind
 use Rattle.lido_reader.specs.Items.{IsRight, continues_right, is_bar, is_element}
-use Rattle.lido_reader.proofs.PhrasesLemmas.{no_memory, sees_finds}
+use Rattle.lido_computations.proofs.PhrasesLemmas.{no_memory, sees_finds}
 use Rattle.lido_reader.proofs.PartsLemmas.{finish, then_finish, go_on, go_past, stuck_at, stuck_in, read_whole, done_stops_wide}
 use Rattle.lido_reader.proofs.RightSidesLemmas.{production_leads, listof_leads, element_continues, bar_continues, choices_completable}
 use Rattle.lido_reader.proofs.right_sides.right_side.Goals as goal

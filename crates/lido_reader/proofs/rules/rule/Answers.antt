@@ -1,10 +1,10 @@
 use Rattle.std.specs.Prelude.{◌≡◌, refl}
 use Rattle.std.proofs.lemmas.Result.{err_from_is_err_and}
 use Rattle.lido_base.specs.Reading.{nothing}
-use Rattle.lido_reader.specs.Computations.{IsComputation}
+use Rattle.lido_computations.specs.Computations.{IsComputation}
 use Rattle.lido_reader.specs.Items.{IsRule, called_in, is_bar_kind, is_element_kind}
 use Rattle.std.specs.Prelude.{◌||◌}
-use Rattle.lido_reader.proofs.PhrasesLemmas.{leads_self, name_completable, no_memory}
+use Rattle.lido_computations.proofs.PhrasesLemmas.{leads_self, name_completable, no_memory}
 use Rattle.lido_reader.proofs.PartsLemmas.{finish, then_finish, go_on, go_past, stuck_at, stuck_in, read_whole, optional_completable}
 use Rattle.lido_reader.proofs.DeclarationsLemmas.{colon_completable}
 use Rattle.lido_reader.proofs.NamesOfRulesLemmas.{colon_names}

@@ -1,10 +1,10 @@
 use Rattle.std.proofs.lemmas.Result.{err_from_is_err_and}
 use Rattle.lido_base.specs.Reading.{nothing}
-use Rattle.lido_reader.specs.Computations.{IsComputation}
+use Rattle.lido_computations.specs.Computations.{IsComputation}
 use Rattle.lido_reader.specs.Items.{IsAbout, IsComputing, IsDeclaring}
-use Rattle.lido_reader.proofs.PhrasesLemmas.{refused_by}
+use Rattle.lido_computations.proofs.PhrasesLemmas.{refused_by}
 use Rattle.lido_reader.proofs.SymbolsLemmas.{declaring_leads, computing_leads}
-use Rattle.lido_reader.proofs.AddedLemmas.{keeps_none}
+use Rattle.lido_computations.proofs.FunctionsLemmas.{keeps_none}
 use Rattle.lido_reader.proofs.symbols.about.Goals as goal
 
 pub returns-in_err-declared-clause-reads : goal.returns-in_err-declared-clause-reads

@@ -3,13 +3,13 @@ use Rattle.std.proofs.Common.{arith}
 use Rattle.std.proofs.lemmas.Grind.{common_steps}
 use Rattle.std.proofs.lemmas.Result.{err_from_is_err_and}
 use Rattle.lido_base.specs.Reading.{nothing}
-use Rattle.lido_reader.specs.Computations.{IsComputation}
+use Rattle.lido_computations.specs.Computations.{IsComputation}
 use Rattle.lido_reader.specs.Items.{IsComputing}
-use Rattle.lido_reader.proofs.PhrasesLemmas.{leads_self}
+use Rattle.lido_computations.proofs.PhrasesLemmas.{leads_self}
 use Rattle.lido_reader.proofs.PartsLemmas.{finish, then_finish, go_on, go_past, stuck_at, stuck_in, read_whole}
 use Rattle.lido_reader.proofs.BodiesLemmas.{body_completable}
 use Rattle.lido_reader.proofs.SymbolsLemmas.{inherited_stops}
-use Rattle.lido_reader.proofs.AddedLemmas.{keeps_none}
+use Rattle.lido_computations.proofs.FunctionsLemmas.{keeps_none}
 use Rattle.lido_reader.proofs.symbols.computing.Goals as goal
 
 pub returns-in_err-classes-clause-reads : goal.returns-in_err-classes-clause-reads

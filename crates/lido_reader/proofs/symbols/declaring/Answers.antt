@@ -2,7 +2,7 @@ use Rattle.std.specs.Prelude.{◌≡◌, []}
 use Rattle.std.proofs.lemmas.Result.{err_from_is_err_and}
 use Rattle.lido_base.specs.Reading.{nothing}
 use Rattle.lido_reader.specs.Items.{IsDeclaring}
-use Rattle.lido_reader.proofs.PhrasesLemmas.{leads_self}
+use Rattle.lido_computations.proofs.PhrasesLemmas.{leads_self}
 use Rattle.lido_reader.proofs.PartsLemmas.{finish, then_finish, go_on, go_past, stuck_at, stuck_in, read_whole}
 use Rattle.lido_reader.proofs.DeclarationsLemmas.{colon_stops, colon_completable, semicolon_stops, semicolon_completable, decls_completable}
 use Rattle.lido_reader.proofs.symbols.declaring.Goals as goal

@@ -4,8 +4,8 @@ use Rattle.std.proofs.lemmas.Grind.{common_steps}
 use Rattle.std.proofs.lemmas.Result.{err_from_is_err_and}
 use Rattle.lido_base.proofs.ReadingLemmas.{leads_on}
 use Rattle.lido_base.specs.Reading.{nothing}
-use Rattle.lido_reader.specs.Phrases.{AreMore, IsName, is_comma}
-use Rattle.lido_reader.proofs.PhrasesLemmas.{leads_self, more_leads, more_fails, more_ends, refused_by, plain_apart, comma_is_comma, plain_wider}
+use Rattle.lido_computations.specs.Phrases.{AreMore, IsName, is_comma}
+use Rattle.lido_computations.proofs.PhrasesLemmas.{leads_self, more_leads, more_fails, more_ends, refused_by, plain_apart, comma_is_comma, plain_wider}
 use Rattle.lido_reader.proofs.symbols.further_names.Goals as goal
 
 pub loop-behind_comma-init : goal.loop-behind_comma-init

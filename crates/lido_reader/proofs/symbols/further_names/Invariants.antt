@@ -1,7 +1,7 @@
 use Rattle.std.specs.Prelude.{[], ◌∷◌}
 use Rattle.std.proofs.Common.{length, ◌≤◌}
 use Rattle.lido_base.specs.Reading.{Leads}
-use Rattle.lido_reader.specs.Phrases.{AreMore, IsName, is_comma}
+use Rattle.lido_computations.specs.Phrases.{AreMore, IsName, is_comma}
 use Rattle.lido_reader.proofs.symbols.further_names.Given as goal
 
 abbrev pub invariant-loop-behind_comma : goal.invariant-loop-behind_comma

@@ -1,11 +1,11 @@
 use Rattle.std.proofs.lemmas.Result.{err_from_is_err_and}
 use Rattle.lido_base.specs.Reading.{nothing}
-use Rattle.lido_reader.specs.Computations.{IsComputation}
+use Rattle.lido_computations.specs.Computations.{IsComputation}
 use Rattle.lido_reader.specs.Items.{IsAbout, IsSymbol}
-use Rattle.lido_reader.proofs.PhrasesLemmas.{leads_self, name_completable, refused_by}
+use Rattle.lido_computations.proofs.PhrasesLemmas.{leads_self, name_completable, refused_by}
 use Rattle.lido_reader.proofs.PartsLemmas.{then_finish, go_on, stuck_at}
 use Rattle.lido_reader.proofs.SymbolsLemmas.{about_completable}
-use Rattle.lido_reader.proofs.AddedLemmas.{keeps_none}
+use Rattle.lido_computations.proofs.FunctionsLemmas.{keeps_none}
 use Rattle.lido_reader.proofs.symbols.symbol.Goals as goal
 
 pub returns-in_err-head-clause-reads : goal.returns-in_err-head-clause-reads

@@ -2,7 +2,7 @@ use Rattle.std.proofs.lemmas.Result.{err_from_is_err_and}
 use Rattle.lido_base.specs.Reading.{nothing}
 use Rattle.lido_lexer.specs.declared.keyword.Keyword.TheVariants as key
 use Rattle.lido_lexer.specs.declared.token.TokenKind.TheVariants as kind
-use Rattle.lido_reader.proofs.PhrasesLemmas.{sees_finds}
+use Rattle.lido_computations.proofs.PhrasesLemmas.{sees_finds}
 use Rattle.lido_reader.proofs.PartsLemmas.{finish, go_on, stuck_at, read_whole}
 use Rattle.lido_reader.proofs.SymbolsLemmas.{class_leads, plain_leads}
 use Rattle.lido_reader.proofs.symbols.symbol_head.Goals as goal

@@ -1,6 +1,6 @@
 use Rattle.std.proofs.Common.{◌≡◌, ◌∙◌, ℕ, List, [], ap, refl}
 use Rattle.lido_lexer.specs.Tables.{interned}
-use Rattle.lido_reader.specs.Added.{functions}
+use Rattle.lido_computations.specs.Functions.{functions}
 use Rattle.lido_top.proofs.parts.first_texts.Goals as goal
 
 -- no name stands among the functions' twice

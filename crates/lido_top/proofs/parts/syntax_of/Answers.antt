@@ -1,6 +1,6 @@
 use Rattle.std.proofs.Common.{refl, ap}
 use Rattle.lido_syntax.specs.declared.fault.SpecFault.TheVariants as spec
-use Rattle.lido_reader.specs.declared.fault.ReadSpecFault.TheVariants as fault
+use Rattle.lido_computations.specs.declared.fault.ReadSpecFault.TheVariants as fault
 use Rattle.lido_reader.specs.Specification.{IsReading}
 use Rattle.order_report.specs.declared.status.Status.TheVariants as status
 use Rattle.lido_top.specs.Answer.{of_read, behind_spec, SyntaxOf}

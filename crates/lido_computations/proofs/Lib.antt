@@ -1,0 +1,5 @@
+pub mod PhrasesLemmas
+pub mod PlacesLemmas
+pub mod ExpressionsLemmas
+pub mod FunctionsLemmas
+pub mod ComputationsLemmas

@@ -1,0 +1,10 @@
+use Rattle.lido_base.specs.Reading.{nothing}
+use Rattle.std.specs.Prelude.{refl}
+use Rattle.lido_computations.proofs.PhrasesLemmas.{name_finds, name_refuses}
+use Rattle.lido_computations.proofs.names.name.Goals as goal
+
+pub returns-in-Some-clause-reads : goal.returns-in-Some-clause-reads
+returns-in-Some-clause-reads c = name_finds nothing c.args.tokens.now c.in-Some.rest.now c.in-Some.found c.in-Some.ensures.seen
+
+pub returns-in-None-clause-reads : goal.returns-in-None-clause-reads
+returns-in-None-clause-reads c = rw c.stop.ensures (c.args.tokens.now, name_refuses nothing c.args.tokens.now c.in-None.ensures.seen, refl)

@@ -1,0 +1,7 @@
+pub mod Phrases
+pub mod Counting
+pub mod Places
+pub mod Expressions
+pub mod Parts
+pub mod Functions
+pub mod Computations

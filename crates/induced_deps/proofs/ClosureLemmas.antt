@@ -1,18 +1,20 @@
--- Relations as lists of rows: what they have, and that adding what follows keeps them transitive.
-use Rattle.std.specs.Prelude.{IsBitSet, slice_index_or, ◌%◌, ◌/◌}
-use Rattle.std.proofs.Common.{ℕ, ◌<◌, ◌≤◌, ◌⊎◌, ◌↔◌, inl, inr, refl, sym, ap, subst, ◌∙◌, arith, List, [], ◌∷◌, ◌++◌, length}
+-- Relations as lists of rows: what they have, what follows from it, and when all of it is there.
+use Rattle.std.specs.Prelude.{IsBitSet, slice_index_or, slice_set, ◌%◌, ◌/◌}
+use Rattle.std.proofs.Common.{◌≡◌, ◌≢◌, ℕ, suc, ◌+◌, ◌<◌, ◌≤◌, ◌⊎◌, ◌↔◌, inl, inr, refl, sym, ap, subst, ◌∙◌, arith, List, [], ◌∷◌, ◌++◌, length}
 use Rattle.std.proofs.lemmas.Bool.{cases_lt, cases_order}
-use Rattle.std.proofs.lemmas.List.{get_or_past, get_or_append_left, length-append}
+use Rattle.std.proofs.lemmas.List.{get_or_past, get_or_append_left, get_or-set_same, get_or-set_other, length-append}
 use Rattle.std.proofs.Math.Seq.{get_or-append_seam}
+use Rattle.std.proofs.lemmas.Option.{get_or_from_slice_get, slice_get-get_or}
 use Rattle.flat_grammar.proofs.BitsLemmas.{empty-set}
+use Rattle.induced_deps.proofs.RowLemmas.{equal_or_not}
 use Rattle.induced_deps.specs.declared.row.Row.{Row}
-use Rattle.induced_deps.specs.Rows.{IsIn, IsPart, no_row, Has, IsTransitive, IsReached, IsBefore, IsWith, Follows, known, extra, joined, Gains, FromOne}
+use Rattle.induced_deps.specs.Rows.{IsIn, IsPart, no_row, Has, IsClosedAt, ArePassed, Follows, known, extra, joined, Nothing, Gains, FromOne}
 
 nothing_in : (w : ℕ) → IsIn [] w → ⊥
 unfolding IsIn
 nothing_in w h = empty-set (w % 128) (subst (λ x. IsBitSet x (w % 128)) (get_or_past [] (w / 128) 0 (omega arith)) h)
 
-no_row_past : (rows : List Row) (v w : ℕ) → length rows ≤ v → Has rows v w → ⊥
+pub no_row_past : (rows : List Row) (v w : ℕ) → length rows ≤ v → Has rows v w → ⊥
 no_row_past rows v w past h = nothing_in w (subst (λ (r : Row). IsIn r.words w) (get_or_past rows v no_row past) h)
 
 pub no_edges : (v w : ℕ) → Has [] v w → ⊥
@@ -31,13 +33,6 @@ none_more rows row none empty v w h = elim (cases_order v (length rows)) [
   ]
 ]
 
--- as far as all rows go
-pub reached_whole : (rows : List Row) (all set : List ℕ) (k : ℕ) → length rows ≤ k → ((w : ℕ) → IsIn all w ↔ (IsIn set w ⊎ ((u : ℕ) × (u < k) × IsIn set u × Has rows u w))) → (w : ℕ) → IsIn all w ↔ IsReached rows set w
-reached_whole rows all set k whole seen w = (
-  λ h. elim ((seen w).0 h) [ inl own ↦ inl own | inr (u, below, among, edge) ↦ inr (u, among, edge) ],
-  λ h. (seen w).1 (elim h [ inl own ↦ inl own | inr (u, among, edge) ↦ inr (u, (let within = has_within rows u w edge in omega arith), among, edge) ]),
-)
-
 pub part_in : (set row : List ℕ) (w : ℕ) → IsPart set row → IsIn set w → IsIn row w
 unfolding IsIn IsPart
 part_in set row w part h = part (w / 128) (w % 128) h
@@ -49,40 +44,6 @@ gains_nothing rows from set part = record {
   added = λ v w h. subst (λ k. Has rows k w) (sym h.0) (part_in set (slice_index_or rows from no_row).words w part h.1);
   follow = λ v w h. known h;
 }
-
-module _ (old new : List Row) (from : ℕ) (all set : List ℕ) (transitive : IsTransitive old) (edges : (v w : ℕ) → Has new v w ↔ IsWith old from all v w) (reached : (w : ℕ) → IsIn all w ↔ IsReached old set w) where
-  passed : (v w : ℕ) → IsIn all v → Has old v w → IsIn all w
-  passed v w among edge = (reached w).1 (inr (elim ((reached v).0 among) [ inl own ↦ (v, own, edge) | inr (x, own, first) ↦ (x, own, transitive x v w first edge) ]))
-
-  earlier : (u v : ℕ) → Has old u v → IsBefore old from v → IsBefore old from u
-  earlier u v edge (inl same) = inr (subst (λ k. Has old u k) same edge)
-  earlier u v edge (inr more) = inr (transitive u v from edge more)
-
-  joins : (u v w : ℕ) → IsWith old from all u v → IsWith old from all v w → IsWith old from all u w
-  joins u v w (inl first) (inl second) = inl (transitive u v w first second)
-  joins u v w (inl first) (inr (within, before, among)) = inr (has_within old u v first, earlier u v first before, among)
-  joins u v w (inr (within, before, among)) (inl second) = inr (within, before, passed v w among second)
-  joins u v w (inr (within, before, among)) (inr (other, later, last)) = inr (within, before, last)
-
-  pub stays_transitive : IsTransitive new
-  stays_transitive u v w first second = (edges u w).1 (joins u v w ((edges u v).0 first) ((edges v w).0 second))
-
-  module _ (within : from < length old) where
-    pub gains : Gains old new (FromOne from set)
-    gains = record {
-      kept = λ v w h. (edges v w).1 (inl h);
-      added = λ v w h. (edges v w).1 (inr (subst (λ k. k < length old) (sym h.0) within, inl h.0, (reached w).1 (inl h.1)));
-      follow = λ v w h. from_with v w ((edges v w).0 h);
-    }
-      where
-        behind : (w : ℕ) → IsReached old set w → Follows old (FromOne from set) from w
-        behind w (inl own) = extra (refl, own)
-        behind w (inr (x, own, edge)) = joined (extra (refl, own)) (known edge)
-
-        from_with : (v w : ℕ) → IsWith old from all v w → Follows old (FromOne from set) v w
-        from_with v w (inl h) = known h
-        from_with v w (inr (inside, inl same, among)) = subst (λ k. Follows old (FromOne from set) k w) (sym same) (behind w ((reached w).0 among))
-        from_with v w (inr (inside, inr edge, among)) = joined (known edge) (behind w ((reached w).0 among))
 
 -- More extra edges.
 more_follows : (rows : List Row) (E F : ℕ → ℕ → Type 0) → ((v w : ℕ) → E v w → F v w) → (v w : ℕ) → Follows rows E v w → Follows rows F v w
@@ -113,3 +74,117 @@ pub follows_within : (rows : List Row) (E J : ℕ → ℕ → Type 0) → ((u v 
 follows_within rows E J transitive old new v w (known h) = old v w h
 follows_within rows E J transitive old new v w (extra h) = new v w h
 follows_within rows E J transitive old new v w (joined {v = u} h k) = transitive v u w (follows_within rows E J transitive old new v u h) (follows_within rows E J transitive old new u w k)
+
+-- edges of one vertex alone
+pub gains_joined : (old new : List Row) (from : ℕ) (set : List ℕ) → ((v w : ℕ) → Has new v w ↔ (Has old v w ⊎ FromOne from set v w)) → Gains old new (FromOne from set)
+gains_joined old new from set edges = record {
+  kept = λ v w h. (edges v w).1 (inl h);
+  added = λ v w h. (edges v w).1 (inr h);
+  follow = λ v w h. elim ((edges v w).0 h) [ inl before ↦ known before | inr more ↦ extra more ];
+}
+
+-- What follows without extra edges is no further gain.
+pub gains_closed : (old middle new : List Row) (E : ℕ → ℕ → Type 0) → Gains old middle E → Gains middle new Nothing → Gains old new E
+gains_closed old middle new E = gains_then old middle new E Nothing E (λ v w h. h) (λ v w h. absurd h) (λ v w h. inl h)
+
+pub closed_past : (rows : List Row) (v : ℕ) → length rows ≤ v → IsClosedAt rows v
+closed_past rows v past w x h k = absurd (no_row_past rows v w past h)
+
+-- a closed row has all that follows from what it has
+follows_closed : (rows : List Row) (v : ℕ) → IsClosedAt rows v → (w x : ℕ) → Follows rows Nothing w x → Has rows v w → Has rows v x
+follows_closed rows v is w x (known h) first = is w x first h
+follows_closed rows v is w x (extra h) first = absurd h
+follows_closed rows v is w x (joined {v = u} h k) first = follows_closed rows v is u x k (follows_closed rows v is w u h first)
+
+-- one more vertex is passed
+pub passed_more : (rows : List Row) (v : ℕ) (old_all new_all old_passed new_passed : List ℕ) → ArePassed rows old_passed old_all
+    → ((w : ℕ) → IsIn new_all w ↔ (IsIn old_all w ⊎ Has rows v w))
+    → ((w : ℕ) → IsIn new_passed w → (w ≡ v) ⊎ (IsIn old_passed w ⊎ (Has rows v w × IsClosedAt rows v)))
+    → ArePassed rows new_passed new_all
+passed_more rows v old_all new_all old_passed new_passed before all passed w x among edge = (all x).1 (elim (passed w among) [
+  | inl same ↦ inr (subst (λ k. Has rows k x) same edge)
+  | inr other ↦ elim other [ inl earlier ↦ inl (before w x earlier edge) | inr (first, closed) ↦ inr (closed w x first edge) ]
+])
+
+-- Another row stands at a vertex.
+module _ (rows : List Row) (from : ℕ) (row : Row) where
+  at_from : from < length rows → slice_index_or (slice_set rows from row) from no_row ≡ row
+  at_from within = get_or-set_same rows from row no_row within
+
+  at_other : (v : ℕ) → v ≢ from → slice_index_or (slice_set rows from row) v no_row ≡ slice_index_or rows v no_row
+  at_other v other = get_or-set_other rows from v row no_row other
+
+-- the row of a vertex with a set
+pub join_gains : (rows : List Row) (from : ℕ) (set : List ℕ) (row : Row) → from < length rows → ((j : ℕ) → IsIn row.words j ↔ (IsIn (slice_index_or rows from no_row).words j ⊎ IsIn set j)) → Gains rows (slice_set rows from row) (FromOne from set)
+join_gains rows from set row within members = gains_joined rows (slice_set rows from row) from set edges
+  where
+    edges : (v w : ℕ) → Has (slice_set rows from row) v w ↔ (Has rows v w ⊎ FromOne from set v w)
+    edges v w = elim (equal_or_not v from) [
+      | inl same ↦ (
+        λ h. elim ((members w).0 (subst (λ (r : Row). IsIn r.words w) (at_from rows from row within) (subst (λ k. Has (slice_set rows from row) k w) same h))) [ inl before ↦ inl (subst (λ k. Has rows k w) (sym same) before) | inr more ↦ inr (same, more) ],
+        λ h. subst (λ k. Has (slice_set rows from row) k w) (sym same) (subst (λ (r : Row). IsIn r.words w) (sym (at_from rows from row within)) ((members w).1 (elim h [ inl before ↦ inl (subst (λ k. Has rows k w) same before) | inr more ↦ inr more.1 ]))),
+      )
+      | inr other ↦ (
+        λ h. inl (subst (λ (r : Row). IsIn r.words w) (at_other rows from row v other) h),
+        λ h. elim h [ inl before ↦ subst (λ (r : Row). IsIn r.words w) (sym (at_other rows from row v other)) before | inr more ↦ absurd (other more.0) ],
+      )
+    ]
+
+pub row_read : (rows : List Row) (v : ℕ) (row d : Row) → v < length rows → row ≡ slice_index_or rows v d → slice_index_or rows v no_row ≡ row
+row_read rows v row d within is = get_or_from_slice_get rows v (slice_index_or rows v d) no_row (slice_get-get_or rows v d within) ∙ sym is
+
+-- The row of a vertex becomes all that comes behind it.
+module _ (rows : List Row) (from : ℕ) (row : Row) (within : from < length rows)
+    (own : (w : ℕ) → Has rows from w → IsIn row.words w)
+    (closed : ArePassed rows row.words row.words)
+    (follow : (w : ℕ) → IsIn row.words w → Follows rows Nothing from w) where
+  abbrev new : List Row
+  new = slice_set rows from row
+
+  new_edge : (v w : ℕ) → Has new v w → ((v ≡ from) × IsIn row.words w) ⊎ Has rows v w
+  new_edge v w h = elim (equal_or_not v from) [
+    | inl same ↦ inl (same, subst (λ (r : Row). IsIn r.words w) (at_from rows from row within) (subst (λ k. Has new k w) same h))
+    | inr other ↦ inr (subst (λ (r : Row). IsIn r.words w) (at_other rows from row v other) h)
+  ]
+
+  here : (w : ℕ) → IsIn row.words w → Has new from w
+  here w h = subst (λ (r : Row). IsIn r.words w) (sym (at_from rows from row within)) h
+
+  kept : (v w : ℕ) → Has rows v w → Has new v w
+  kept v w h = elim (equal_or_not v from) [
+    | inl same ↦ subst (λ k. Has new k w) (sym same) (here w (own w (subst (λ k. Has rows k w) same h)))
+    | inr other ↦ subst (λ (r : Row). IsIn r.words w) (sym (at_other rows from row v other)) h
+  ]
+
+  row_gains : Gains rows new Nothing
+  row_gains = record {
+    kept = kept;
+    added = λ v w h. absurd h;
+    follow = λ v w h. elim (new_edge v w h) [ inl (same, among) ↦ subst (λ k. Follows rows Nothing k w) (sym same) (follow w among) | inr before ↦ known before ];
+  }
+
+  closed_other : (v : ℕ) → v ≢ from → IsClosedAt rows v → IsClosedAt new v
+  closed_other v other is w x h k =
+      let first : Has rows v w = subst (λ (r : Row). IsIn r.words w) (at_other rows from row v other) h in
+      kept v x (elim (new_edge w x k) [
+        | inl (same, among) ↦ follows_closed rows v is w x (subst (λ u. Follows rows Nothing u x) (sym same) (follow x among)) first
+        | inr before ↦ is w x first before
+      ])
+
+  closed_here : IsClosedAt new from
+  closed_here w x h k = here x (elim (new_edge w x k) [
+    | inl (same, among) ↦ among
+    | inr before ↦ closed w x (subst (λ (r : Row). IsIn r.words w) (at_from rows from row within) h) before
+  ])
+
+  pub closed_next : (count k : ℕ) → from + (k + 1) ≡ count → ((v : ℕ) → count ≤ v + k → IsClosedAt rows v) → (v : ℕ) → count ≤ v + (k + 1) → IsClosedAt new v
+  closed_next count k place before v above = elim (equal_or_not v from) [
+    | inl same ↦ subst (λ u. IsClosedAt new u) (sym same) closed_here
+    | inr other ↦ closed_other v other (before v (elim (cases_order v from) [
+      | inl same ↦ absurd (other same)
+      | inr apart ↦ elim apart [ inl less ↦ absurd (omega arith) | inr more ↦ omega arith ]
+    ]))
+  ]
+
+  pub gains_row : (old : List Row) → Gains old rows Nothing → Gains old new Nothing
+  gains_row old before = gains_closed old rows new Nothing before row_gains

@@ -1,11 +1,13 @@
 -- Rows of words as sets of numbers.
-use Rattle.std.specs.Prelude.{IsBitSet, nat_eq, slice_set, slice_index_or, ◌%◌, ◌/◌}
+use Rattle.std.specs.Prelude.{IsBitSet, nat_eq, slice_set, slice_index_or, ◌%◌, ◌/◌, ◌^◌, ◌-◌}
 use Rattle.std.proofs.Common.{◌≡◌, ◌≢◌, ℕ, zero, suc, ◌+◌, ◌*◌, ◌<◌, ◌≤◌, ◌⊎◌, ◌↔◌, inl, inr, refl, sym, ap, subst, ◌∙◌, arith, List, [], ◌∷◌, length, Bool, true, false, eq-eqb, true≢false}
 use Rattle.std.proofs.Math.Nat.{div-add-mod}
 use Rattle.std.proofs.lemmas.List.{get_or-set_same, get_or-set_other, get_or_past}
-use Rattle.std.proofs.lemmas.Bool.{eqb-true, cases_lt}
-use Rattle.flat_grammar.proofs.BitsLemmas.{empty-set}
+use Rattle.std.proofs.lemmas.Bool.{eqb-true, cases_lt, cases_order}
+use Rattle.std.proofs.lemmas.List.Sums.{sum_by-set, sum_by-cons}
+use Rattle.flat_grammar.proofs.BitsLemmas.{empty-set, within-le}
 use Rattle.induced_deps.specs.Rows.{IsIn, IsPart}
+use Rattle.induced_deps.specs.Rounds.{room}
 
 zeros : (k : ℕ) → ◌≡◌ {A = ℕ} (slice_index_or (0 ∷ 0 ∷ 0 ∷ 0 ∷ 0 ∷ 0 ∷ 0 ∷ 0 ∷ []) k 0) 0
 zeros zero = refl
@@ -74,3 +76,43 @@ joined_whole old new other k all joined j = (
 pub part_whole : (ws others : List ℕ) (k : ℕ) → length ws ≤ k → ((i b : ℕ) → i < k → IsBitSet (slice_index_or ws i 0) b → IsBitSet (slice_index_or others i 0) b) → IsPart ws others
 unfolding IsPart
 part_whole ws others k all known i b h = elim (cases_lt i (length ws)) [ inl within ↦ known i b (omega arith) h | inr past ↦ absurd (no_word ws i b past h) ]
+
+-- a bit of a word as a number of the set
+pub at_bit : (ws : List ℕ) (i b : ℕ) → b < 128 → IsBitSet (slice_index_or ws i 0) b ↔ IsIn ws (128 * i + b)
+unfolding IsIn
+at_bit ws i b small =
+    let q : (128 * i + b) / 128 ≡ i = omega arith in
+    let r : (128 * i + b) % 128 ≡ b = omega arith in (
+      λ h. subst (λ n. IsBitSet (slice_index_or ws n 0) ((128 * i + b) % 128)) (sym q) (subst (λ n. IsBitSet (slice_index_or ws i 0) n) (sym r) h),
+      λ h. subst (λ n. IsBitSet (slice_index_or ws i 0) n) r (subst (λ n. IsBitSet (slice_index_or ws n 0) ((128 * i + b) % 128)) q h),
+    )
+
+-- a greater word leaves less room
+pub room_set : (ws : List ℕ) (i word : ℕ) → i < length ws → slice_index_or ws i 0 ≤ word → room (slice_set ws i word) ≤ room ws
+room_set ws i word within more = let e = sum_by-set (λ row. 2 ^ 128 - row) ws i word 0 within in omega arith
+
+room_less : (ws : List ℕ) (i word : ℕ) → i < length ws → slice_index_or ws i 0 < word → word < 2 ^ 128 → room (slice_set ws i word) < room ws
+room_less ws i word within more small = let e = sum_by-set (λ row. 2 ^ 128 - row) ws i word 0 within in omega arith
+
+-- a new number leaves less room
+pub added_less : (ws : List ℕ) (k word : ℕ) → k / 128 < length ws → word < 2 ^ 128 → ((b : ℕ) → IsBitSet word b ↔ ((b ≡ k % 128) ⊎ IsBitSet (slice_index_or ws (k / 128) 0) b)) → (IsIn ws k → ⊥) → room (slice_set ws (k / 128) word) < room ws
+unfolding IsIn
+added_less ws k word within small with none = elim (cases_order (slice_index_or ws (k / 128) 0) word) [
+  | inl same ↦ absurd (none (subst (λ n. IsBitSet n (k % 128)) (sym same) ((with (k % 128)).1 (inl refl))))
+  | inr apart ↦ elim apart [
+    | inl less ↦ room_less ws (k / 128) word within less small
+    | inr more ↦ (let least = within-le (slice_index_or ws (k / 128) 0) word (λ b h. (with b).1 (inr h)) in absurd (omega arith))
+  ]
+]
+
+-- more numbers leave no more room
+pub room_part : (olds news : List ℕ) → length olds ≡ length news → ((i b : ℕ) → IsBitSet (slice_index_or olds i 0) b → IsBitSet (slice_index_or news i 0) b) → room news ≤ room olds
+room_part [] [] size kept = omega arith
+room_part [] (y ∷ news) size kept = absurd (omega arith)
+room_part (x ∷ olds) [] size kept = absurd (omega arith)
+room_part (x ∷ olds) (y ∷ news) size kept =
+    let rest = room_part olds news (omega arith) (λ i b h. kept (suc i) b h) in
+    let more = within-le x y (λ b h. kept 0 b h) in
+    let old = sum_by-cons (λ row. 2 ^ 128 - row) x olds in
+    let new = sum_by-cons (λ row. 2 ^ 128 - row) y news in
+    omega arith

@@ -1,13 +1,13 @@
 -- Words whose bits are moved.
-use Rattle.std.specs.Prelude.{IsBitSet, slice_index_or, slice_set, ◌/◌, ◌%◌, ◌^◌, ◌*◌, ◌-◌}
-use Rattle.std.specs.Int.{bit_at}
-use Rattle.std.proofs.Common.{◌≡◌, ℕ, ◌+◌, ◌<◌, ◌≤◌, ◌↔◌, ◌⊎◌, inl, inr, sym, ap, subst, ◌∙◌, arith, List, length}
+use Rattle.std.specs.Prelude.{IsBitSet, slice_index_or, slice_set, ◌/◌, ◌%◌, ◌^◌, ◌*◌, ◌-◌, bit_and, min}
+use Rattle.std.specs.Int.{bit_at, trailing_zeros, w128}
+use Rattle.std.proofs.Common.{◌≡◌, ℕ, zero, suc, refl, ◌+◌, ◌<◌, ◌≤◌, ◌↔◌, ◌⊎◌, inl, inr, sym, ap, subst, ◌∙◌, arith, List, length}
 use Rattle.std.proofs.Math.Nat.{div-div-eq-div-mul, div-add-mod}
 use Rattle.std.proofs.lemmas.Bool.{cases_lt}
 use Rattle.std.proofs.lemmas.List.{get_or-set_same, get_or-set_other}
-use Rattle.std.proofs.lemmas.Nat.{div-add-mod', mod_below, pow-add, bit_set_by_shift}
-use Rattle.std.proofs.lemmas.Nat.Bits.{bit_at-zero, bit_at_cat_low, bit_at_cat_high, shr_and_one}
-use Rattle.flat_grammar.proofs.BitsLemmas.{not-above, empty-set}
+use Rattle.std.proofs.lemmas.Nat.{div-add-mod', mod_below, pow-add, bit_set_by_shift, and_le_l}
+use Rattle.std.proofs.lemmas.Nat.Bits.{bit_at-zero, bit_at_cat_low, bit_at_cat_high, shr_and_one, bit_at-lt, bit_at_and, bit_at_not, bit_at-trailing_zeros}
+use Rattle.flat_grammar.proofs.BitsLemmas.{not-above, empty-set, is-set}
 use Rattle.induced_deps.specs.Rows.{IsIn}
 use Rattle.induced_deps.proofs.RowLemmas.{equal_or_not}
 use lib.Pow.{pow_pos}
@@ -182,3 +182,35 @@ put_in words i word new within few both j = elim (equal_or_not (j / 128) i) [
     λ h. elim h [ inl old ↦ subst (λ w. IsBitSet w (j % 128)) (sym there) old | inr more ↦ absurd (other more.0) ],
   ))
 ]
+
+unset_of : (n k : ℕ) → (IsBitSet n k → ⊥) → bit_at n k ≡ 0
+unset_of n k none = go (bit_at n k) refl (bit_at-lt n k)
+  where
+    go : (b : ℕ) → bit_at n k ≡ b → b < 2 → bit_at n k ≡ 0
+    go zero e l = e
+    go (suc zero) e l = absurd (none (set_of n k e))
+    go (suc (suc b)) e l = absurd (omega arith)
+
+-- What a word has that the other has not.
+module _ (word other : ℕ) (small : word < 2 ^ 128) (fits : other < 2 ^ 128) where
+  abbrev beside : ℕ
+  beside = bit_and word (2 ^ 128 - 1 - other)
+
+  beside_at : (k : ℕ) → k < 128 → bit_at beside k ≡ min (bit_at word k) (1 - bit_at other k)
+  beside_at k within = bit_at_and word (2 ^ 128 - 1 - other) k ∙ ap (λ b. min (bit_at word k) b) (bit_at_not w128 other k fits within)
+
+  pub none_beside : beside ≡ 0 → (k : ℕ) → IsBitSet word k → IsBitSet other k
+  none_beside none k h = elim (cases_lt k 128) [
+    | inr past ↦ absurd (not-above word 128 k small past h)
+    | inl within ↦ elim (is-set other k) [
+      | inl is ↦ is
+      | inr not ↦ (let one = one_of word k h in let zero = unset_of other k not in let at = beside_at k within in let no = ap (λ n. bit_at n k) none ∙ bit_at-zero k in absurd (omega arith))
+    ]
+  ]
+
+  pub one_beside : 0 < beside → (trailing_zeros w128 beside < 128) × IsBitSet word (trailing_zeros w128 beside) × (IsBitSet other (trailing_zeros w128 beside) → ⊥)
+  one_beside some =
+      let (within, one, least) = bit_at-trailing_zeros w128 beside some (let less = and_le_l word (2 ^ 128 - 1 - other) in omega arith) in
+      let at = beside_at (trailing_zeros w128 beside) within in
+      let high = bit_at-lt word (trailing_zeros w128 beside) in
+      (within, set_of word (trailing_zeros w128 beside) (omega arith), λ h. (let other_one = one_of other (trailing_zeros w128 beside) h in absurd (omega arith)))

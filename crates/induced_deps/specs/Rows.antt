@@ -23,17 +23,13 @@ module _ (rows : List Row) where
   abbrev pub IsTransitive : Type 0
   IsTransitive = (u v w : ℕ) → Has u v → Has v w → Has u w
 
-  -- w is in the set, or behind one of it
-  abbrev pub IsReached : List ℕ → ℕ → Type 0
-  IsReached set w = IsIn set w ⊎ ((v : ℕ) × IsIn set v × Has v w)
+  -- the row of the vertex has all that comes behind what it has
+  abbrev pub IsClosedAt : ℕ → Type 0
+  IsClosedAt v = (w x : ℕ) → Has v w → Has w x → Has v x
 
-  -- the vertex is this one, or comes before it
-  abbrev pub IsBefore : ℕ → ℕ → Type 0
-  IsBefore from v = (v ≡ from) ⊎ Has v from
-
-  -- an edge, or one from what comes before the vertex to what is in the set
-  abbrev pub IsWith : ℕ → List ℕ → ℕ → ℕ → Type 0
-  IsWith from set v w = Has v w ⊎ ((v < length rows) × IsBefore from v × IsIn set w)
+  -- all that comes right behind the passed ones is in the set
+  abbrev pub ArePassed : List ℕ → List ℕ → Type 0
+  ArePassed passed all = (w x : ℕ) → IsIn passed w → Has w x → IsIn all x
 
 -- What edges and extra ones say together: they themselves, and paths of them.
 pub data Follows (rows : List Row) (Extra : ℕ → ℕ → Type 0) : ℕ → ℕ → Type 0 where
@@ -50,3 +46,7 @@ pub record Gains (old new : List Row) (Extra : ℕ → ℕ → Type 0) : Type 0 
 -- edges from one vertex to all of a set
 abbrev pub FromOne : ℕ → List ℕ → ℕ → ℕ → Type 0
 FromOne from set v w = (v ≡ from) × IsIn set w
+
+-- no edges
+abbrev pub Nothing : ℕ → ℕ → Type 0
+Nothing v w = ⊥

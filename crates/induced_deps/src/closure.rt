@@ -1,12 +1,13 @@
-//! A relation between the vertices of a rule that is kept transitive.
-ghost use Rattle.std.specs.Prelude.{◌≡◌, ◌<◌, ◌≤◌, ◌↔◌, ℕ, IsTrue, IfOk, length};
-ghost use Rattle.induced_deps.specs.Rows.{IsIn, Has, IsTransitive, IsReached, IsWith, Gains, FromOne};
+//! A relation between the vertices of a rule, and all that follows from it.
+ghost use Rattle.std.specs.Prelude.{◌≡◌, ◌<◌, ◌↔◌, ◌⊎◌, ℕ, IsTrue, IsFalse, IfOk, length};
+ghost use Rattle.induced_deps.specs.Rows.{IsIn, Has, IsTransitive, IsClosedAt, ArePassed, Follows, Nothing, Gains, FromOne};
+ghost use Rattle.induced_deps.specs.Rounds.{room};
 
 use crate::row::Row;
 use lido_base::Memory;
 use std::alloc::Global;
 
-/// For each vertex those that come behind it. A path of two edges is an edge.
+/// For each vertex those that come behind it. Once it is closed, a path of two edges is an edge.
 #[derive(Drop)]
 pub struct Closure {
     pub rows: Vec<Row>,
@@ -34,47 +35,75 @@ impl Closure {
         self.rows[from].has(to)
     }
 
-    /// The set with all vertices that come behind one of it.
-    fn reached(&self, set: &Row) -> Row
-        requires { length self.now.rows.items ≤ 1024 }
-        ensures { (w : ℕ) → IsIn result.words w ↔ IsReached self.now.rows.items set.now.words w }
+    /// Adds edges from a vertex to all vertices of the set, and tells whether any was new. What follows from them isn't added.
+    pub fn join(&mut self, from: usize, set: &Row) -> bool
+        requires { from < length self.old.rows.items }
+        ensures size { length self.new.rows.items ≡ length self.old.rows.items }
+        ensures edges { Gains self.old.rows.items self.new.rows.items (FromOne from set.now.words) }
+        ensures same { IsFalse result → self.new.rows.items ≡ self.old.rows.items }
     {
-        let mut all = *set;
-        for (v, row) in self.rows.iter().enumerate() {
-            if set.has(v) {
-                all.join(row);
-            }
+        if set.is_within(&self.rows[from]) {
+            return false;
+        }
+        self.rows[from].join(set);
+        true
+    }
+
+    /// The row of a vertex, without numbers where there is no such vertex.
+    fn row_of(&self, v: usize) -> Row
+        ensures { (w : ℕ) → IsIn result.words w ↔ Has self.now.rows.items v w }
+    {
+        match self.rows.get(v) {
+            Some(row) => *row,
+            None => Row::new(),
+        }
+    }
+
+    /// Passes a vertex: all that its row has is put into the set, and the vertex among the passed ones. Where the vertex is greater
+    /// than `from` its row has all that comes behind it, and is passed as a whole.
+    fn pass(&self, from: usize, v: usize, all: &mut Row, passed: &mut Row)
+        requires small { v < 1024 }
+        requires closed { (u : ℕ) → from < u → IsClosedAt self.now.rows.items u }
+        requires passed { ArePassed self.now.rows.items passed.old.words all.old.words }
+        ensures all { (w : ℕ) → IsIn all.new.words w ↔ (IsIn all.old.words w ⊎ Has self.now.rows.items v w) }
+        ensures passed { ArePassed self.now.rows.items passed.new.words all.new.words }
+        ensures less { (IsIn passed.old.words v → ⊥) → room passed.new.words < room passed.old.words }
+    {
+        let row = self.row_of(v);
+        all.join(&row);
+        passed.add(v);
+        if v > from {
+            passed.join(&row);
+        }
+    }
+
+    /// All vertices that come behind one, where the rows of those greater than it have all that comes behind them.
+    fn behind(&self, from: usize) -> Row
+        requires vertex { from < length self.now.rows.items }
+        requires closed { (u : ℕ) → from < u → IsClosedAt self.now.rows.items u }
+        ensures own { (w : ℕ) → Has self.now.rows.items from w → IsIn result.words w }
+        ensures closed { ArePassed self.now.rows.items result.words result.words }
+        ensures follow { (w : ℕ) → IsIn result.words w → Follows self.now.rows.items Nothing from w }
+    {
+        let mut all = self.rows[from];
+        let mut passed = Row::new();
+        while let Some(v) = all.first_beside(&passed) {
+            self.pass(from, v, &mut all, &mut passed);
         }
         all
     }
 
-    /// Puts a set behind a vertex and behind each that comes before it.
-    fn put_behind(&mut self, from: usize, set: &Row)
-        requires vertex { from < length self.old.rows.items }
-        requires few { length self.old.rows.items ≤ 1024 }
-        ensures size { length self.new.rows.items ≡ length self.old.rows.items }
-        ensures edges { (v w : ℕ) → Has self.new.rows.items v w ↔ IsWith self.old.rows.items from set.now.words v w }
-    {
-        for v in 0..self.rows.len() {
-            if v == from || self.rows[v].has(from) {
-                self.rows[v].join(set);
-            }
-        }
-    }
-
-    /// Adds edges from a vertex to all vertices of the set, and what follows from them.
-    pub fn add(&mut self, from: usize, set: &Row)
-        requires vertex { from < length self.old.rows.items }
-        requires few { length self.old.rows.items ≤ 1024 }
-        requires transitive { IsTransitive self.old.rows.items }
+    /// Adds all edges that follow: then a path of two edges is an edge. The vertices are taken from the last to the first, each with
+    /// the whole rows of those behind it, so that few rows are joined where most edges lead to greater vertices.
+    pub fn close(&mut self)
         ensures size { length self.new.rows.items ≡ length self.old.rows.items }
         ensures transitive { IsTransitive self.new.rows.items }
-        ensures edges { Gains self.old.rows.items self.new.rows.items (FromOne from set.now.words) }
+        ensures edges { Gains self.old.rows.items self.new.rows.items Nothing }
     {
-        if set.is_within(&self.rows[from]) {
-            return;
+        for k in 0..self.rows.len() {
+            let from = self.rows.len() - 1 - k;
+            let row = self.behind(from);
+            self.rows[from] = row;
         }
-        let all = self.reached(set);
-        self.put_behind(from, &all);
     }
 }

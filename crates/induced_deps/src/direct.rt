@@ -56,14 +56,12 @@ fn add_edges(places: &[Place], before: &[Occ], goal: Occ, closure: &mut Closure)
     requires goal { IsPlaced places.now goal }
     requires within { AreWithin places.now (length closure.old.rows.items) }
     requires few { length closure.old.rows.items ≤ 1024 }
-    requires transitive { IsTransitive closure.old.rows.items }
     ensures size { length closure.new.rows.items ≡ length closure.old.rows.items }
-    ensures transitive { IsTransitive closure.new.rows.items }
     ensures edges { Gains closure.old.rows.items closure.new.rows.items (ToGoal places.now before.now goal) }
 {
     let goal = only(number(places, goal));
     for u in before {
-        closure.add(number(places, *u), &goal);
+        closure.join(number(places, *u), &goal);
     }
 }
 
@@ -77,9 +75,7 @@ fn add_comp(
     requires placed { HasPlaces places.now comp.now }
     requires within { AreWithin places.now (length closure.old.rows.items) }
     requires few { length closure.old.rows.items ≤ 1024 }
-    requires transitive { IsTransitive closure.old.rows.items }
     ensures size { length closure.new.rows.items ≡ length closure.old.rows.items }
-    ensures transitive { IsTransitive closure.new.rows.items }
     ensures edges { OnOk result (Gains closure.old.rows.items closure.new.rows.items (ToGoal places.now (dependencies comp.now) comp.now.goal)) }
 {
     let before = dependencies_of(alloc, comp)?;
@@ -87,7 +83,26 @@ fn add_comp(
     Ok(())
 }
 
-/// Adds the direct dependencies of all these computations.
+/// Adds the direct dependencies of these computations.
+fn join_comps(
+    alloc: Global,
+    places: &[Place],
+    comps: &[FlatComp],
+    closure: &mut Closure,
+) -> Result<(), Memory>
+    requires placed { (c : Computation) → Contains comps.now c → HasPlaces places.now c }
+    requires within { AreWithin places.now (length closure.old.rows.items) }
+    requires few { length closure.old.rows.items ≤ 1024 }
+    ensures size { length closure.new.rows.items ≡ length closure.old.rows.items }
+    ensures edges { OnOk result (Gains closure.old.rows.items closure.new.rows.items (OfComps places.now comps.now)) }
+{
+    for comp in comps {
+        add_comp(alloc, places, comp, closure)?;
+    }
+    Ok(())
+}
+
+/// Adds the direct dependencies of all computations of a rule, and what follows from them.
 pub fn add_comps(
     alloc: Global,
     places: &[Place],
@@ -97,13 +112,11 @@ pub fn add_comps(
     requires placed { (c : Computation) → Contains comps.now c → HasPlaces places.now c }
     requires within { AreWithin places.now (length closure.old.rows.items) }
     requires few { length closure.old.rows.items ≤ 1024 }
-    requires transitive { IsTransitive closure.old.rows.items }
     ensures size { length closure.new.rows.items ≡ length closure.old.rows.items }
-    ensures transitive { IsTransitive closure.new.rows.items }
+    ensures transitive { OnOk result (IsTransitive closure.new.rows.items) }
     ensures edges { OnOk result (Gains closure.old.rows.items closure.new.rows.items (OfComps places.now comps.now)) }
 {
-    for comp in comps {
-        add_comp(alloc, places, comp, closure)?;
-    }
+    join_comps(alloc, places, comps, closure)?;
+    closure.close();
     Ok(())
 }

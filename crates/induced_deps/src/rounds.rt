@@ -11,22 +11,43 @@ use crate::graph::Place;
 use flat_grammar::bits;
 use lido_base::List;
 
-/// Adds edges between the vertices of a place, by the rows of its symbol.
-fn add_rows(place: Place, rows: &[u128], closure: &mut Closure)
+/// Adds edges between the vertices of a place, by the rows of its symbol, and tells whether any was new.
+fn join_rows(place: Place, rows: &[u128], closure: &mut Closure) -> bool
     requires size { length rows.now ≡ place.width }
     requires within { place.offset + place.width ≤ length closure.old.rows.items }
     requires few { length closure.old.rows.items ≤ 1024 }
-    requires transitive { IsTransitive closure.old.rows.items }
     ensures size { length closure.new.rows.items ≡ length closure.old.rows.items }
-    ensures transitive { IsTransitive closure.new.rows.items }
     ensures edges { Gains closure.old.rows.items closure.new.rows.items (OfRows place rows.now place.width) }
+    ensures same { IsFalse result → closure.new.rows.items ≡ closure.old.rows.items }
 {
+    let mut grew = false;
     for (a, row) in rows.iter().enumerate() {
-        closure.add(place.offset + a, &vertices_of(*row, place));
+        if closure.join(place.offset + a, &vertices_of(*row, place)) {
+            grew = true;
+        }
     }
+    grew
 }
 
-/// Adds edges between the vertices of each place, by the rows of its symbol.
+/// Adds edges between the vertices of each place, by the rows of its symbol, and tells whether any was new.
+fn join_induced(places: &[Place], ids: &[List<u128>], closure: &mut Closure) -> bool
+    requires rows { All (HasRow ids.now) places.now }
+    requires within { AreWithin places.now (length closure.old.rows.items) }
+    requires few { length closure.old.rows.items ≤ 1024 }
+    ensures size { length closure.new.rows.items ≡ length closure.old.rows.items }
+    ensures edges { Gains closure.old.rows.items closure.new.rows.items (OfPlaces ids.now places.now) }
+    ensures same { IsFalse result → closure.new.rows.items ≡ closure.old.rows.items }
+{
+    let mut grew = false;
+    for place in places {
+        if join_rows(*place, ids[place.symbol.0 as usize].as_slice(), closure) {
+            grew = true;
+        }
+    }
+    grew
+}
+
+/// Adds edges between the vertices of each place, by the rows of its symbol, and what follows from them.
 pub fn add_induced(places: &[Place], ids: &[List<u128>], closure: &mut Closure)
     requires rows { All (HasRow ids.now) places.now }
     requires within { AreWithin places.now (length closure.old.rows.items) }
@@ -36,8 +57,8 @@ pub fn add_induced(places: &[Place], ids: &[List<u128>], closure: &mut Closure)
     ensures transitive { IsTransitive closure.new.rows.items }
     ensures edges { Gains closure.old.rows.items closure.new.rows.items (OfPlaces ids.now places.now) }
 {
-    for place in places {
-        add_rows(*place, ids[place.symbol.0 as usize].as_slice(), closure);
+    if join_induced(places, ids, closure) {
+        closure.close();
     }
 }
 

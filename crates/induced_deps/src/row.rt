@@ -1,8 +1,9 @@
 //! Sets of vertices of a rule, of which there are at most 1,024.
-ghost use Rattle.std.specs.Prelude.{◌≡◌, ◌+◌, ◌-◌, ◌/◌, ◌%◌, ◌<◌, ◌≤◌, ◌↔◌, ◌⊎◌, ℕ, IsTrue, IsBitSet, slice_index};
+ghost use Rattle.std.specs.Prelude.{◌≡◌, ◌+◌, ◌-◌, ◌/◌, ◌%◌, ◌<◌, ◌≤◌, ◌↔◌, ◌⊎◌, ℕ, IsTrue, IsBitSet, MatchOption, slice_index};
 ghost use Rattle.induced_deps.specs.Rows.{IsIn, IsPart};
+ghost use Rattle.induced_deps.specs.Rounds.{room};
 
-use crate::words::{moved_down, moved_up};
+use crate::words::{first_new, moved_down, moved_up};
 use flat_grammar::bits;
 
 /// How many words a row has.
@@ -33,14 +34,16 @@ impl Row {
     /// Puts the number into the set.
     pub fn add(&mut self, k: usize)
         requires { k < 1024 }
-        ensures { (j : ℕ) → IsIn self.new.words j ↔ ((j ≡ k) ⊎ IsIn self.old.words j) }
+        ensures members { (j : ℕ) → IsIn self.new.words j ↔ ((j ≡ k) ⊎ IsIn self.old.words j) }
+        ensures less { (IsIn self.old.words k → ⊥) → room self.new.words < room self.old.words }
     {
         self.words[k / 128] = bits::with(self.words[k / 128], k % 128);
     }
 
     /// Puts all numbers of the other set into this one.
     pub fn join(&mut self, other: &Row)
-        ensures { (j : ℕ) → IsIn self.new.words j ↔ (IsIn self.old.words j ⊎ IsIn other.now.words j) }
+        ensures members { (j : ℕ) → IsIn self.new.words j ↔ (IsIn self.old.words j ⊎ IsIn other.now.words j) }
+        ensures lighter { room self.new.words ≤ room self.old.words }
     {
         for k in 0..WORDS {
             self.words[k] = bits::union(self.words[k], other.words[k]);
@@ -57,6 +60,19 @@ impl Row {
             }
         }
         true
+    }
+
+    /// A number of the set that isn't in the other one, from its last word on.
+    pub fn first_beside(&self, other: &Row) -> Option<usize>
+        ensures { MatchOption result (IsPart self.now.words other.now.words) (λ k. (k < 1024) × IsIn self.now.words k × (IsIn other.now.words k → ⊥)) }
+    {
+        for k in 0..WORDS {
+            let i = WORDS - 1 - k;
+            if let Some(bit) = first_new(self.words[i], other.words[i]) {
+                return Some(128 * i + bit);
+            }
+        }
+        None
     }
 
     /// The word at a place, and one without bits behind the last.

@@ -16,13 +16,11 @@ use std::time::Instant;
 fn add_next(from: usize, closure: &mut Closure)
     requires vertex { from < 1023 }
     requires size { length closure.old.rows.items ≡ 1024 }
-    requires transitive { IsTransitive closure.old.rows.items }
     ensures size { length closure.new.rows.items ≡ 1024 }
-    ensures transitive { IsTransitive closure.new.rows.items }
 {
     let mut next = Row::new();
     next.add(from + 1);
-    closure.add(from, &next);
+    closure.join(from, &next);
 }
 
 /// The relation of 1,024 vertices whose edges lead from each to the next one, and to all that come behind it.
@@ -34,6 +32,7 @@ fn chain(alloc: Global) -> Result<Closure, Memory>
     for v in 0..1023 {
         add_next(v, &mut closure);
     }
+    closure.close();
     Ok(closure)
 }
 

@@ -1,17 +1,6 @@
-use Rattle.std.proofs.Common.{◌∙◌, refl}
-use Rattle.induced_deps.proofs.DirectLemmas.{contains_at, no_comps, one_comp_more}
+use Rattle.induced_deps.specs.Vertices.{OfComps}
+use Rattle.induced_deps.proofs.ClosureLemmas.{gains_closed}
 use Rattle.induced_deps.proofs.direct.add_comps.Goals as goal
 
-pub loop-comp-init : goal.loop-comp-init
-loop-comp-init c = record { size = refl; transitive = c.requires.transitive; edges = no_comps c.args.places.now c.args.closure.now.rows.items }
-
-pub add_comp-requires-clause-placed : goal.add_comp-requires-clause-placed
-add_comp-requires-clause-placed c = c.requires.placed c.comp-item.result (rw c.comp-item.is (contains_at c.args.comps.now c.loop-comp.comp-index _ c.loop-comp-test.true))
-
-pub loop-comp-preserved : goal.loop-comp-preserved
-loop-comp-preserved c = record {
-  size = c.in_ok-add_comp.ensures.size ∙ c.loop-comp.invariant.size;
-  transitive = c.in_ok-add_comp.ensures.transitive;
-  edges = one_comp_more c.args.places.now c.args.closure.now.rows.items c.loop-comp.closure.rows.items c.add_comp.new.closure.rows.items c.args.comps.now c.loop-comp.comp-index _ c.comp-item.result
-      c.loop-comp-test.true c.comp-item.is c.loop-comp.invariant.edges c.in_ok-add_comp.ensures.edges;
-}
+pub returns-clause-edges : goal.returns-clause-edges
+returns-clause-edges c = gains_closed c.args.closure.now.rows.items c.join_comps.new.closure.rows.items c.close.new.self.rows.items (OfComps c.args.places.now c.args.comps.now) c.in_ok-join_comps.ensures.edges c.close.ensures.edges

@@ -41,6 +41,18 @@ fn occurrence(k: usize, a: usize) -> Occ
     }
 }
 
+/// What a computation reads where all that children inherit waits for the left side's last attribute.
+fn late_source(size: Size, k: usize, a: usize) -> Occ
+    requires size { IsWithin size }
+    requires attribute { a < size.attributes }
+    ensures { IsInside size result }
+{
+    if k > 0 {
+        return occurrence(0, size.attributes - 1);
+    }
+    occurrence(0, a.saturating_sub(1))
+}
+
 /// What a computation reads.
 fn source(size: Size, flow: Flow, is_last: bool, k: usize, a: usize) -> Occ
     requires size { IsWithin size }
@@ -48,6 +60,9 @@ fn source(size: Size, flow: Flow, is_last: bool, k: usize, a: usize) -> Occ
     requires attribute { a < size.attributes }
     ensures { IsInside size result }
 {
+    if flow == Flow::Late {
+        return late_source(size, k, a);
+    }
     if k > 0 {
         if flow == Flow::Straight || a == 0 {
             return occurrence(0, a);

@@ -24,4 +24,7 @@ pub enum Flow {
     Turns,
     /// As with turns, and each attribute needs all occurrences of the attribute before it.
     Dense,
+    /// Each synthesized attribute of a left side is a copy of the inherited one before it, and all that children inherit waits for
+    /// the left side's last attribute.
+    Late,
 }

@@ -1,4 +1,5 @@
 //! The time of the analysis, and that its answer is sound.
+ghost use Rattle.std.specs.Prelude.{◌≡◌, ◌+◌, ◌*◌, ◌<◌, ◌≤◌};
 ghost use Rattle.large_grammars.specs.Sizes.{IsWithin};
 
 use induced_deps::induce;
@@ -26,52 +27,68 @@ fn is_planned(alloc: Global, size: Size, flow: Flow) -> Result<bool, Memory>
     }
 }
 
+/// Whether the grammars of this size have sound plans, each in less than so many seconds, for each of the flows.
+fn are_planned(rt: &HostRuntime, size: Size, flows: &[Flow], seconds: u64) -> Result<bool, Fail>
+    requires { IsWithin size }
+{
+    for flow in flows {
+        let start = Instant::now(rt)?;
+        if !is_planned(rt.alloc(), size, *flow)? || start.elapsed(rt)?.as_secs() >= seconds {
+            return Ok(false);
+        }
+    }
+    Ok(true)
+}
+
+/// So many rules, and half as many symbols.
+fn rules(rules: usize, attributes: usize, children: usize, bottom_up: bool) -> Size
+    requires some { 2 ≤ rules }
+    requires rules { rules ≤ 1024 }
+    requires attributes { attributes ≤ 128 }
+    requires child { 0 < children }
+    requires occurrences { (1 + children) * attributes ≤ 1024 }
+    requires children { children < 1024 }
+    ensures { IsWithin result }
+{
+    Size {
+        symbols: rules / 2,
+        attributes,
+        rules,
+        children,
+        bottom_up,
+    }
+}
+
+/// All flows.
+const FLOWS: [Flow; 4] = [Flow::Straight, Flow::Turns, Flow::Dense, Flow::Late];
+
 #[test]
 fn two_hundred_rules(rt: HostRuntime) -> Result<(), Fail> {
-    let alloc = rt.alloc();
-    let size = Size {
-        symbols: 100,
-        attributes: 10,
-        rules: 200,
-        children: 3,
-        bottom_up: false,
-    };
-    for flow in [Flow::Straight, Flow::Turns, Flow::Dense] {
-        let start = Instant::now(&rt)?;
-        assert!(rt; is_planned(alloc, size, flow)?);
-        assert!(rt; start.elapsed(&rt)?.as_secs() < 5);
+    for bottom_up in [false, true] {
+        assert!(rt; are_planned(&rt, rules(200, 10, 3, bottom_up), &FLOWS, 5)?);
+        assert!(rt; are_planned(&rt, rules(200, 128, 7, bottom_up), &FLOWS, 10)?);
     }
     Ok(())
 }
 
 #[test]
-fn copies_at_the_limits(rt: HostRuntime) -> Result<(), Fail> {
-    let alloc = rt.alloc();
-    let size = Size {
-        symbols: 512,
-        attributes: 128,
-        rules: 1_024,
-        children: 7,
-        bottom_up: false,
-    };
-    let start = Instant::now(&rt)?;
-    assert!(rt; is_planned(alloc, size, Flow::Straight)?);
-    assert!(rt; start.elapsed(&rt)?.as_secs() < 60);
+fn many_children(rt: HostRuntime) -> Result<(), Fail> {
+    for bottom_up in [false, true] {
+        assert!(rt; are_planned(&rt, rules(40, 4, 255, bottom_up), &FLOWS, 10)?);
+        assert!(rt; are_planned(&rt, rules(200, 1, 1_023, bottom_up), &FLOWS, 10)?);
+    }
     Ok(())
 }
 
 #[test]
-fn turns_at_the_limits(rt: HostRuntime) -> Result<(), Fail> {
-    let alloc = rt.alloc();
-    let size = Size {
-        symbols: 512,
-        attributes: 128,
-        rules: 1_024,
-        children: 7,
-        bottom_up: false,
-    };
-    let start = Instant::now(&rt)?;
-    assert!(rt; is_planned(alloc, size, Flow::Turns)?);
-    assert!(rt; start.elapsed(&rt)?.as_secs() < 60);
+fn each_flow_at_the_limits(rt: HostRuntime) -> Result<(), Fail> {
+    let size = rules(1_024, 128, 7, false);
+    assert!(rt; are_planned(&rt, size, &[Flow::Straight, Flow::Turns, Flow::Late], 60)?);
+    Ok(())
+}
+
+#[test]
+fn dense_at_the_limits(rt: HostRuntime) -> Result<(), Fail> {
+    assert!(rt; are_planned(&rt, rules(1_024, 128, 7, false), &[Flow::Dense], 60)?);
     Ok(())
 }

@@ -1,6 +1,5 @@
 -- No phrase within an item has a RULE, so no name of a rule is added while one is read.
-use Rattle.std.proofs.Common.{◌≡◌, ℕ, ◌+◌, suc, Bool, true, false, List, [], ◌∷◌, ◌++◌, length, Option, Some, None, refl, ap, sym, ◌∙◌, subst, append-nil, arith}
-use Rattle.std.proofs.lemmas.Option.{none-some}
+use Rattle.std.proofs.Common.{◌≡◌, ℕ, ◌+◌, suc, Bool, false, List, [], ◌∷◌, ◌++◌, length, Option, Some, None, refl, ap, sym, ◌∙◌, subst, arith}
 use Rattle.lido_base.specs.Reading.{Finds, nothing}
 use Rattle.lido_base.specs.declared.ids.StrId.{StrId}
 use Rattle.lido_lexer.specs.Seen.{Sees, token, Signs, Keys}
@@ -25,7 +24,7 @@ use Rattle.lido_computations.specs.Computations as grammar
 use Rattle.lido_computations.specs.Computations.{IsDependency, AreMoreDependencies, AreSomeDependencies, AreDependencies, AreAfter, IsTarget, attribute, chain_start, IsComputation, assignment, output}
 use Rattle.lido_reader.specs.Items as items
 use Rattle.lido_reader.specs.Items.{Repeats, IsTerminalType, terminal_type, AreNames, IsSide, unsaid, synt, inh, IsDecl, AreDecls, IsAttr, IsTerm, IsChain, IsElement, literal, IsRight, production, listof, AreInherited, IsSymbolHead, class, plain, IsBody, IsAbout, declaring, computing, IsSymbol, IsRule, IsRuleName, IsFurtherItem}
-use Rattle.lido_reader.specs.Added.{is_rule_kind, called_names, first_names, rule_names}
+use Rattle.lido_reader.specs.Added.{is_rule_kind, first_names, rule_names}
 use Rattle.lido_reader.proofs.AddedLemmas.{other_names, names_of_rule, first_of_rule, first_of_other}
 
 -- the tokens of the phrase add no name

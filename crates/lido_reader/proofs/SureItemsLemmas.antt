@@ -21,7 +21,7 @@ use Rattle.lido_syntax.specs.declared.spec.Spec.{Spec}
 use Rattle.lido_computations.specs.Phrases.{Done, Then, IsName, word, is_comma}
 use Rattle.lido_computations.specs.Computations.{IsComputation, continues_computation}
 use Rattle.lido_reader.specs.Items as grammar
-use Rattle.lido_reader.specs.Items.{Repeats, IsTerminalType, AreNames, IsSide, is_side, is_side_kind, declared, IsDecl, IsFurtherDecl, AreDecls, continues_decls, IsAttr, IsTerm, IsChain, IsElement, IsFurtherElement, is_element, is_element_kind, IsFurtherListed, AreChoices, is_bar, is_bar_kind, IsRight, continues_right, called_in, is_word, AreInherited, is_inherits_kind, continues_inherited, IsSymbolHead, IsRuleName, IsDeclaring, is_not_end, is_not_end_kind, IsFurtherComputation, AreComputations, IsBody, IsComputing, IsAbout, IsSymbol, IsRule, begins_item, no_items, IsRuleItem, IsSymbolItem, IsAttrItem, IsTermItem, IsChainItem, IsFurtherItem, IsSpec}
+use Rattle.lido_reader.specs.Items.{Repeats, IsTerminalType, AreNames, IsSide, is_side, is_side_kind, declared, IsDecl, IsFurtherDecl, AreDecls, continues_decls, IsAttr, IsTerm, IsChain, IsElement, IsFurtherElement, is_element, is_element_kind, IsFurtherListed, AreChoices, is_bar, is_bar_kind, IsRight, continues_right, called_in, is_word, AreInherited, continues_inherited, IsSymbolHead, IsRuleName, IsDeclaring, is_not_end, is_not_end_kind, IsFurtherComputation, AreComputations, IsBody, IsComputing, IsAbout, IsSymbol, IsRule, begins_item, no_items, IsRuleItem, IsSymbolItem, IsAttrItem, IsTermItem, IsChainItem, IsFurtherItem, IsSpec}
 use Rattle.lido_reader.specs.Specification.{IsSpecOf}
 use Rattle.lido_reader.proofs.PartsLemmas.{Steps, done_stops, done_stops_wide, repeat_stops, seen_goes}
 use Rattle.lido_reader.proofs.DeclarationsLemmas.{colon_stops, semicolon_stops, decl_steps}

@@ -1,4 +1,4 @@
-use Rattle.std.proofs.Common.{◌≡◌, ℕ, List, ◌<◌, ◌++◌, ◌∷◌, [], length, map, take, sym, ◌∙◌, ap, arith}
+use Rattle.std.proofs.Common.{ℕ, List, ◌<◌, length, sym, ◌∙◌, ap, arith}
 use Rattle.std.proofs.lemmas.Grind.{common_steps}
 use Rattle.std.proofs.lemmas.List.{map_more}
 use Rattle.std.specs.Borrow.{Bor}

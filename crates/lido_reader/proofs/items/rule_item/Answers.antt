@@ -13,7 +13,6 @@ use Rattle.lido_computations.specs.Phrases.{RefusesAt}
 use Rattle.lido_computations.proofs.PhrasesLemmas.{leads_self}
 use Rattle.lido_reader.proofs.PartsLemmas.{finish, go_on, stuck_at, read_whole}
 use Rattle.lido_reader.specs.Added.{Adds, AddsSome, first_names}
-use Rattle.lido_reader.proofs.AddedLemmas.{some_of_all}
 use Rattle.lido_reader.proofs.items.rule_item.Goals as goal
 
 pub returns-in_err-item-clause-reads : goal.returns-in_err-item-clause-reads

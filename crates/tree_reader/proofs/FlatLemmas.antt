@@ -110,7 +110,18 @@ with_fault {A} {B} {C} {F} a p e the = record { is = the.is; only = only }
 
 -- ---- from the text to both trees
 
+-- a phase gives one value
+same_value : {A F : Type 0} (p : Result A F → Type 0) (a b : A) → IsThe p (Ok a) → IsThe p (Ok b) → b ≡ a
+same_value p a b one other = held b a (one.only (Ok b) other.is)
+
 module _ (symbols : List FlatSymbol) (rules : List FlatRule) (shapes : List Shape) (root : SymId) (texts : List (List ℕ)) (text : List ℕ) where
+  -- a written tree that fits, fits at every later table too
+  pub fits_later : (now later : List (List ℕ)) (W : Tree Value) → IsThe (WrittenOf symbols rules shapes root texts text) (Ok (plain_tree now W))
+      → IsThe (WrittenOf symbols rules shapes root texts text) (Ok (plain_tree later W))
+      → IsFitting symbols rules shapes root (plain_tree now W) → IsFitting symbols rules shapes root (plain_tree later W)
+  fits_later now later W first second fits = subst (λ (T : Tree Plain). IsFitting symbols rules shapes root T)
+      (same_value (WrittenOf symbols rules shapes root texts text) (plain_tree later W) (plain_tree now W) second first) fits
+
   -- what a written tree gives, its text gives
   trees_next : (written : Tree Plain) (r : Result (Tree Plain × Tree Plain × List ℕ) TreeFault)
       → IsThe (WrittenOf symbols rules shapes root texts text) (Ok written)

@@ -14,7 +14,7 @@ use Rattle.tree_reader.specs.declared.part.Part.TheVariants as part
 dropped : (k : ℕ) (bytes : List ℕ) → length (drop k bytes) ≤ length bytes
 dropped k bytes = omega (arith, length-drop k bytes)
 
-within : (p : ℕ → Bool) (bytes : List ℕ) → length (behind p bytes) ≤ length bytes
+pub within : (p : ℕ → Bool) (bytes : List ℕ) → length (behind p bytes) ≤ length bytes
 within p bytes = dropped (prefix_len p bytes) bytes
 
 shorter : (p : ℕ → Bool) (bytes : List ℕ) → 0 < length (take_while p bytes) → length (behind p bytes) < length bytes
@@ -38,7 +38,7 @@ quoted_within : (bytes text rest : List ℕ) → IsQuoted bytes text rest → le
 quoted_within bytes [] rest is = omega (arith, ap length is)
 quoted_within bytes (b ∷ text) rest (inner, first, more) = omega (arith, part_within bytes b inner first, quoted_within inner text rest more)
 
-front_shorter : (end : ℕ) (bytes : List ℕ) (p : Part) (rest : List ℕ) → IsFront end bytes p rest → length rest < length bytes
+pub front_shorter : (end : ℕ) (bytes : List ℕ) (p : Part) (rest : List ℕ) → IsFront end bytes p rest → length rest < length bytes
 front_shorter end bytes (part.Begin at name_at name) rest (inner, is, stands, name_stands, named) =
     omega (arith, ap length is, ap length named.after, within is_white inner, within is_name_byte (behind is_white inner))
 front_shorter end bytes (part.Int at z) rest (stands, int) = omega (arith, ap length int.after, shorter is_digit (unsigned bytes) int.some, unsigned_within (first_is is_minus bytes) bytes)

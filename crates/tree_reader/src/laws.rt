@@ -1,5 +1,5 @@
 //! Laws of written trees: functions that do nothing, whose contracts are the laws.
-ghost use Rattle.std.specs.Prelude.{◌≡◌, ◌≤◌, ℕ, List, Ok, length};
+ghost use Rattle.std.specs.Prelude.{◌≡◌, ◌≢◌, ◌≤◌, ℕ, List, Result, Ok, Err, length};
 ghost use Rattle.lido_base.specs.Plain.{Plain};
 ghost use Rattle.lido_base.specs.Texts.{IsDistinctTexts};
 ghost use Rattle.lido_base.specs.Tree.{Tree};
@@ -14,6 +14,9 @@ ghost use Rattle.tree_reader.specs.Asking.{asked};
 ghost use Rattle.tree_reader.specs.WrittenTrees.{meaning, most_nodes};
 ghost use Rattle.tree_reader.specs.WrittenAs.{IsWrittenAs};
 ghost use Rattle.tree_reader.specs.Ints.{HasInts};
+ghost use Rattle.tree_reader.specs.Tables.{IsTableOf};
+ghost use Rattle.tree_store.specs.declared.trees.Trees.{Trees};
+ghost use Rattle.tree_store.specs.declared.fault.TreeFault.{TreeFault};
 
 /// A tree that a text means fits the grammar.
 pub fn what_is_read_fits()
@@ -28,4 +31,10 @@ pub fn what_fits_is_read()
     ensures { (symbols : List FlatSymbol) (rules : List FlatRule) (shapes : List Shape) (root : Symbol) (texts : List (List ℕ))
         → IsWellFormed symbols rules shapes root → IsDistinctTexts texts → (t : Tree Plain) → IsFitting symbols rules shapes root t → (name_at : ℕ) (name : List ℕ) (below : Forest) (end : ℕ)
         → length t ≤ most_nodes → IsWrittenAs rules texts t name below → meaning (asked symbols rules shapes root texts) name_at name below end ≡ Ok t }
+{}
+
+/// The texts that were there, the text of a tree and the answer decide of the texts that are there afterwards, unless memory ran out.
+pub fn one_table()
+    ensures { (texts : List (List ℕ)) (text : List ℕ) (answer : Result Trees TreeFault) → answer ≢ Err TreeFault.Memory → (later other : List (List ℕ))
+        → IsTableOf texts text answer later → IsTableOf texts text answer other → other ≡ later }
 {}

@@ -1,7 +1,8 @@
 //! The shapes of a grammar by the names of their rules.
-ghost use Rattle.std.specs.Prelude.{◌≡◌, ◌≢◌, ◌<◌, ℕ, true, List, Option, None, Some, length, slice_index_or, IfOk, IfErr, IfSome};
+ghost use Rattle.std.specs.Prelude.{◌≡◌, ◌≢◌, ◌+◌, ◌<◌, ◌≤◌, ℕ, true, List, [], ◌∷◌, Option, None, Some, length, slice_index_or, IfOk, OnOk, IfErr, IfSome};
 ghost use Rattle.lido_base.specs.Texts.{IsDistinctTexts};
 ghost use Rattle.lido_lexer.specs.Lexing.{Gains};
+ghost use Rattle.lido_lexer.specs.Tables.{interned};
 ghost use Rattle.tree_reader.specs.Asking.{IsNameTable, first_from, has_name, is_called, or_last};
 
 use flat_grammar::{Flat, Shape};
@@ -48,7 +49,8 @@ pub fn name_table(
     Ok(names)
 }
 
-/// The shape whose rule has this name, if there is one. The table was made when there were as many texts as it has ids.
+/// The shape whose rule has this name, if there is one. The name is among the texts from then on, whether or not there is one. The table
+/// was made when there were as many texts as it has ids.
 pub fn find_named(
     flat: &Flat,
     names: &[Option<usize>],
@@ -60,6 +62,8 @@ pub fn find_named(
         → found ≡ first_from 0 (has_name flat.now.symbols flat.now.rules flat.now.shapes flat.now.root texts name.now) flat.now.shapes) }
     ensures inside { IfOk result (λ found. IfSome found (λ k. k < length flat.now.shapes)) }
     ensures memory { IfErr result (λ e. e ≡ TreeFault.Memory) }
+    ensures table { OnOk result (strings.new ≡ interned strings.old (name.now ∷ [])) }
+    ensures few { length strings.new ≤ length strings.old + 1 }
     ensures kept { Gains strings.old strings.new }
     ensures distinct { IsDistinctTexts strings.new }
 {

@@ -1,5 +1,5 @@
 //! The whole way from the text of a tree to its trees.
-ghost use Rattle.std.specs.Prelude.{◌≤◌, length, IfOk};
+ghost use Rattle.std.specs.Prelude.{◌+◌, ◌≤◌, ℕ, List, length, IfOk};
 ghost use Rattle.lido_base.specs.Phases.{Gives};
 ghost use Rattle.lido_base.specs.Plain.{plain_tree};
 ghost use Rattle.lido_lexer.specs.Lexing.{Gains};
@@ -7,6 +7,7 @@ ghost use Rattle.flat_grammar.specs.Fitting.{IsFitting, IsWithinLimits};
 ghost use Rattle.flat_grammar.specs.FlatTrees.{IsFlatTree};
 ghost use Rattle.tree_store.specs.declared.fault.TreeFault.{TreeFault};
 ghost use Rattle.tree_reader.specs.WrittenTrees.{most_nodes};
+ghost use Rattle.tree_reader.specs.Tables.{IsTableOf};
 ghost use Rattle.tree_reader.specs.Whole.{WrittenOf, TreesOf};
 
 use crate::scanner::scan;
@@ -26,9 +27,12 @@ fn written_of(
     strings: &mut Strings,
 ) -> Result<Tree, TreeFault>
     requires { length text.now ≤ 8388608 }
-    ensures gives { Gives (plain_tree strings.new) (WrittenOf flat.now.symbols flat.now.rules flat.now.shapes flat.now.root strings.old text.now) TreeFault.Memory result }
+    ensures gives { (later : List (List ℕ)) → Gains strings.new later
+        → Gives (plain_tree later) (WrittenOf flat.now.symbols flat.now.rules flat.now.shapes flat.now.root strings.old text.now) TreeFault.Memory result }
     ensures fits { IfOk result (λ tree. IsFitting flat.now.symbols flat.now.rules flat.now.shapes flat.now.root (plain_tree strings.new tree)) }
     ensures few_nodes { IfOk result (λ tree. length tree ≤ most_nodes) }
+    ensures table { IsTableOf strings.old text.now result strings.new }
+    ensures few { length strings.new ≤ length strings.old + length text.now }
     ensures kept { Gains strings.old strings.new }
 {
     let parts = match scan(alloc, text) {
@@ -46,7 +50,11 @@ fn written_of(
 /// The text has at most 8,388,608 bytes. `TreeSyntax` stands at the first byte with which the text begins no tree, or at its length;
 /// else the first fault from the left is answered: `UnknownRule` at a name, `WrongRoot` at the name of the first node, `WrongChild` at a child or
 /// at the bracket where one is missing, `TooMany` nodes (above 1,048,576). Then come `TooMany` instances (above 4,194,304) and text cells (above
-/// 16,777,216) of the flat tree. `Memory` is want of memory. Texts that were in `strings` keep their ids; those of the tree's strings are added.
+/// 16,777,216) of the flat tree. `Memory` is want of memory.
+///
+/// Names of rules are found among the texts that were in `strings`, which keep their ids whatever the answer. The strings of the tree are added
+/// behind them, each once and in the order of the text. A fault leaves those in front of its place, and the name or the string that stands there: so
+/// the name of an `UnknownRule` is among the texts too. `TreeSyntax` adds none. At most as many texts are added as the text has bytes.
 pub fn read_tree(
     alloc: Global,
     text: &[u8],
@@ -54,11 +62,16 @@ pub fn read_tree(
     strings: &mut Strings,
 ) -> Result<Trees, TreeFault>
     requires { length text.now ≤ 8388608 }
-    ensures gives { Gives (λ trees. (plain_tree strings.new trees.written, plain_tree strings.new trees.flat, trees.node_of))
+    // Read with the texts of `strings`, now or at any later time, the trees are those of the text, and no others are.
+    ensures gives { (later : List (List ℕ)) → Gains strings.new later
+        → Gives (λ trees. (plain_tree later trees.written, plain_tree later trees.flat, trees.node_of))
         (TreesOf flat.now.symbols flat.now.rules flat.now.shapes flat.now.root strings.old text.now) TreeFault.Memory result }
     ensures fits { IfOk result (λ trees. IsFitting flat.now.symbols flat.now.rules flat.now.shapes flat.now.root (plain_tree strings.new trees.written)) }
     ensures flat { IfOk result (λ trees. IsFlatTree flat.now.symbols flat.now.rules flat.now.shapes trees.written trees.flat trees.node_of) }
     ensures within { IfOk result (λ trees. IsWithinLimits flat.now.symbols flat.now.rules trees.flat) }
+    // What was in `strings`, the text and the answer decide of what is in `strings` now.
+    ensures table { IsTableOf strings.old text.now result strings.new }
+    ensures few { length strings.new ≤ length strings.old + length text.now }
     ensures kept { Gains strings.old strings.new }
 {
     match written_of(alloc, text, flat, strings) {

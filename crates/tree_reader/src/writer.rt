@@ -1,5 +1,5 @@
 //! The parts of a tree's text become its written tree, or its first fault.
-ghost use Rattle.std.specs.Prelude.{◌≡◌, ◌+◌, ◌-◌, ◌^◌, ◌<◌, ◌≤◌, ℕ, List, Option, None, Some, true, false, length, [], ◌∷◌, ◌++◌, option_to_list, Ok, Result, IfOk, OnOk, IfErr};
+ghost use Rattle.std.specs.Prelude.{◌≡◌, ◌⊎◌, ◌+◌, ◌-◌, ◌^◌, ◌<◌, ◌≤◌, ℕ, List, Option, None, Some, true, false, length, [], ◌∷◌, ◌++◌, option_to_list, Ok, Result, IfOk, OnOk, IfErr};
 ghost use Rattle.lido_base.specs.Phases.{Gives};
 ghost use Rattle.lido_base.specs.Texts.{IsDistinctTexts};
 ghost use Rattle.flat_grammar.specs.Fitting.{IsFitting};
@@ -15,6 +15,7 @@ ghost use Rattle.tree_reader.specs.Asking.{IsNameTable, asked, shape_at};
 ghost use Rattle.tree_reader.specs.WrittenTrees.{Asked, node_fault, most_nodes, meaning};
 ghost use Rattle.tree_reader.specs.Language.{Forest, parts_of, IsOneNode};
 ghost use Rattle.tree_reader.specs.Ints.{HasInt};
+ghost use Rattle.tree_reader.specs.Tables.{IsRead, IsTable, begins};
 ghost use Rattle.tree_reader.specs.Writing.{RefusesIf, StopsAt, IsWritten, FailsAs, IsMeaning, IsFirst};
 
 use crate::asking::{is_enough, may_be_node, may_be_root, may_be_value};
@@ -66,6 +67,7 @@ fn add_leaf(
     ensures tree { OnOk result (IsTree tree.new) }
     ensures count { length tree.new ≡ length tree.old }
     ensures refused { (texts : List (List ℕ)) → IfErr result (λ e. RefusesIf ((asked flat.now.symbols flat.now.rules flat.now.shapes flat.now.root texts).takes_value parent.shape parent.has ty) at e) }
+    ensures place { IfErr result (λ e. (e ≡ TreeFault.Memory) ⊎ (e ≡ TreeFault.WrongChild at)) }
 {
     if !may_be_value(flat, shape_at(flat, parent.shape), parent.has as usize, ty) {
         return Err(TreeFault::WrongChild { at });
@@ -84,6 +86,7 @@ fn close(flat: &Flat, parent: Open, at: u32) -> Result<(), TreeFault>
     requires shape { parent.shape < length flat.now.shapes }
     ensures enough { (texts : List (List ℕ)) → OnOk result ((asked flat.now.symbols flat.now.rules flat.now.shapes flat.now.root texts).is_enough parent.shape parent.has ≡ true) }
     ensures refused { (texts : List (List ℕ)) → IfErr result (λ e. RefusesIf ((asked flat.now.symbols flat.now.rules flat.now.shapes flat.now.root texts).is_enough parent.shape parent.has) at e) }
+    ensures place { IfErr result (λ e. e ≡ TreeFault.WrongChild at) }
 {
     if is_enough(shape_at(flat, parent.shape), parent.has as usize) {
         Ok(())
@@ -104,6 +107,7 @@ fn child_shape(
     name: &[u8],
 ) -> Result<usize, TreeFault>
     requires shape { parent.shape < length flat.now.shapes }
+    requires few_nodes { count ≤ most_nodes }
     requires table { IsNameTable flat.now.rules flat.now.shapes (length names.now) names.now }
     ensures inside { IfOk result (λ k. k < length flat.now.shapes) }
     ensures few { OnOk result (count < most_nodes) }
@@ -113,6 +117,8 @@ fn child_shape(
         → node_fault (asked flat.now.symbols flat.now.rules flat.now.shapes flat.now.root texts) parent.shape parent.has count at name_at name.now ≡ None) }
     ensures refused { IfErr result (λ e. (texts : List (List ℕ)) → Gains texts strings.old → length texts ≡ length names.now
         → StopsAt (node_fault (asked flat.now.symbols flat.now.rules flat.now.shapes flat.now.root texts) parent.shape parent.has count at name_at name.now) e) }
+    ensures read { IsRead strings.old count (Part.Begin at name_at name.now) result strings.new }
+    ensures few_texts { length strings.new ≤ length strings.old + 1 }
     ensures kept { Gains strings.old strings.new }
     ensures distinct { IsDistinctTexts strings.new }
 {
@@ -153,6 +159,7 @@ fn write_int(
     ensures refused { IfErr result (λ e. (names texts : List (List ℕ)) (most : ℕ) (outer : List OpenNode) (more : List Part) (answer : Result (Table Plain) TreeFault)
         → IsWritten (asked flat.now.symbols flat.now.rules flat.now.shapes flat.now.root names) texts tree.old (length flat.now.shapes) most (Some parent) outer (Part.Int at value ∷ more) answer
         → FailsAs answer e) }
+    ensures place { IfErr result (λ e. (e ≡ TreeFault.Memory) ⊎ (e ≡ TreeFault.WrongChild at)) }
     ensures count { length tree.new ≡ length tree.old }
 {
     add_leaf(flat, tree, parent, at, ValueType::Int, Value::Int(value))
@@ -177,6 +184,8 @@ fn write_text(
     ensures refused { IfErr result (λ e. (names : List (List ℕ)) (most : ℕ) (outer : List OpenNode) (more : List Part) (answer : Result (Table Plain) TreeFault)
         → IsWritten (asked flat.now.symbols flat.now.rules flat.now.shapes flat.now.root names) strings.old tree.old (length flat.now.shapes) most (Some parent) outer (Part.Str at text.now ∷ more) answer
         → FailsAs answer e) }
+    ensures read { IsRead strings.old (length tree.old) (Part.Str at text.now) result strings.new }
+    ensures few_texts { length strings.new ≤ length strings.old + 1 }
     ensures kept { Gains strings.old strings.new }
     ensures distinct { IsDistinctTexts strings.new }
     ensures count { length tree.new ≡ length tree.old }
@@ -209,6 +218,7 @@ fn write_end(
     ensures refused { IfErr result (λ e. (names texts : List (List ℕ)) (t : Table Terminal) (most : ℕ) (more : List Part) (answer : Result (Table Plain) TreeFault)
         → IsWritten (asked flat.now.symbols flat.now.rules flat.now.shapes flat.now.root names) texts t (length flat.now.shapes) most (Some parent) outer.old (Part.End at ∷ more) answer
         → FailsAs answer e) }
+    ensures place { IfErr result (λ e. e ≡ TreeFault.WrongChild at) }
 {
     match close(flat, parent, at) {
         Ok(()) => Ok(pop(outer)),
@@ -242,6 +252,9 @@ fn write_node(
         → (most : ℕ) (more : List Part) (answer : Result (Table Plain) TreeFault)
         → IsWritten (asked flat.now.symbols flat.now.rules flat.now.shapes flat.now.root texts) strings.old tree.old (length flat.now.shapes) most (Some parent) outer.old (Part.Begin at name_at name.now ∷ more) answer
         → FailsAs answer e) }
+    ensures read { IsRead strings.old (length tree.old) (Part.Begin at name_at name.now) result strings.new }
+    ensures few_texts { length strings.new ≤ length strings.old + 1 }
+    ensures count { OnOk result (length tree.new ≡ length tree.old + 1) }
     ensures kept { Gains strings.old strings.new }
     ensures distinct { IsDistinctTexts strings.new }
     ensures few_nodes { OnOk result (length tree.new ≤ most_nodes) }
@@ -283,6 +296,9 @@ fn first_node(
         (meaning (asked flat.now.symbols flat.now.rules flat.now.shapes flat.now.root texts) name_at name.now below end)) }
     ensures refused { IfErr result (λ e. (texts : List (List ℕ)) → Gains texts strings.old → length texts ≡ length names.now → (below : Forest) (end : ℕ)
         → FailsAs (meaning (asked flat.now.symbols flat.now.rules flat.now.shapes flat.now.root texts) name_at name.now below end) e) }
+    ensures read { (at : ℕ) → IsRead strings.old 0 (Part.Begin at name_at name.now) result strings.new }
+    ensures few_texts { length strings.new ≤ length strings.old + 1 }
+    ensures count { IfOk result (λ x. length x.0 ≡ 1) }
     ensures kept { Gains strings.old strings.new }
     ensures distinct { IsDistinctTexts strings.new }
     ensures few_nodes { IfOk result (λ x. length x.0 ≤ most_nodes) }
@@ -335,6 +351,9 @@ fn write_part(
         → (most : ℕ) (more : List Part) (answer : Result (Table Plain) TreeFault)
         → IsWritten (asked flat.now.symbols flat.now.rules flat.now.shapes flat.now.root texts) strings.old tree.old (length flat.now.shapes) most (Some parent) outer.old (part.now ∷ more) answer
         → FailsAs answer e) }
+    ensures read { IsRead strings.old (length tree.old) part.now result strings.new }
+    ensures few_texts { length strings.new ≤ length strings.old + 1 }
+    ensures count { OnOk result (length tree.new ≡ length tree.old + begins part.now) }
     ensures kept { Gains strings.old strings.new }
     ensures int { OnOk result (HasInt part.now) }
     ensures few_nodes { OnOk result (length tree.new ≤ most_nodes) }
@@ -382,7 +401,8 @@ fn first_name(parts: &[Part]) -> (u32, &[u8], &[Part])
 }
 
 /// The written tree of a text's parts: what they mean, and it fits the grammar. A fault is the first one from the left; `Memory` is
-/// want of memory. Texts that were in `strings` keep their ids whatever the answer.
+/// want of memory. Texts that were in `strings` keep their ids whatever the answer. The names and strings of the parts go behind them, where
+/// they are new: of all parts, or of those up to the one of which the fault tells, with that one.
 pub fn write_tree(
     alloc: Global,
     flat: &Flat,
@@ -395,6 +415,8 @@ pub fn write_tree(
         → Gives (plain_tree later) (IsMeaning (asked flat.now.symbols flat.now.rules flat.now.shapes flat.now.root strings.old) parts.now) TreeFault.Memory result }
     ensures fits { IfOk result (λ tree. IsFitting flat.now.symbols flat.now.rules flat.now.shapes flat.now.root (plain_tree strings.new tree)) }
     ensures few_nodes { IfOk result (λ tree. length tree ≤ most_nodes) }
+    ensures table { IsTable strings.old parts.now result strings.new }
+    ensures few_texts { length strings.new ≤ length strings.old + length parts.now }
     ensures kept { Gains strings.old strings.new }
 {
     let Ok(names) = name_table(alloc, flat, strings.len()) else {

@@ -26,3 +26,6 @@ returns-in-Ok-push-clause-goes c = λ texts gains size most more answer written.
 
 pub returns-in-Ok-push-clause-few_nodes : goal.returns-in-Ok-push-clause-few_nodes
 returns-in-Ok-push-clause-few_nodes c = omega (arith, ap length c.in-Ok-add_node.ensures.added, length-with_node c.args.tree.now c.shape_at.result.now.rule.0 (Some c.args.parent.node), c.in-Ok.ensures.few, c.len.ensures.count)
+
+pub returns-in-Ok-push-clause-count : goal.returns-in-Ok-push-clause-count
+returns-in-Ok-push-clause-count c = omega (arith, ap length c.in-Ok-add_node.ensures.added, length-with_node c.args.tree.now c.shape_at.result.now.rule.0 (Some c.args.parent.node))

@@ -1,10 +1,13 @@
-use Rattle.std.proofs.Common.{sym, subst, ℕ, List, []}
+use Rattle.std.proofs.Common.{sym, ◌∙◌, refl, subst, ℕ, List, []}
 use Rattle.std.proofs.Common.{length}
 use Rattle.lido_base.specs.declared.value.ValueType.TheVariants as type
 use Rattle.tree_reader.specs.Asking.{asked}
 use Rattle.lido_lexer.specs.Lexing.{Gains}
 use Rattle.tree_reader.proofs.Naming.{gains_text}
 use Rattle.tree_reader.proofs.Written.{written_text, stopped_text, written_grown, fails_if, ok_of, err_of}
+use Rattle.lido_lexer.proofs.TablesLemmas.{interned_one}
+use Rattle.tree_reader.specs.declared.part.Part.TheVariants as part
+use Rattle.tree_reader.proofs.TablesOfParts.{read_at}
 use Rattle.tree_reader.proofs.writer.write_text.Goals as goal
 
 pub returns-in-Ok-clause-goes : goal.returns-in-Ok-clause-goes
@@ -20,3 +23,7 @@ returns-in-Ok-clause-refused c = err_of c.add_leaf.result [] c.add_leaf.ensures.
 
 pub returns-in-Ok-clause-count : goal.returns-in-Ok-clause-count
 returns-in-Ok-clause-count c = c.add_leaf.ensures.count
+
+pub returns-in-Ok-clause-read : goal.returns-in-Ok-clause-read
+returns-in-Ok-clause-read c = read_at c.args.strings.now c.intern.new.self (length c.args.tree.now) c.args.at (part.Str c.args.at c.args.text.now) c.add_leaf.result refl
+    (c.in-Ok.ensures.texts ∙ sym (interned_one c.args.strings.now c.args.text.now)) c.add_leaf.ensures.place

@@ -1,10 +1,11 @@
-use Rattle.std.proofs.Common.{◌≡◌, ◌≤◌, ℕ, List, drop, take, length}
+use Rattle.std.proofs.Common.{◌≡◌, ◌+◌, ◌≤◌, ℕ, List, drop, take, length}
 use Rattle.tree_reader.specs.Ints.{HaveInts}
 use Rattle.lido_lexer.specs.Lexing.{Gains}
 use Rattle.tree_reader.specs.Language.{Forest, node, none, parts_of}
 use Rattle.tree_reader.specs.Asking.{asked}
 use Rattle.tree_reader.specs.WrittenTrees.{meaning, most_nodes}
 use Rattle.tree_reader.specs.Writing.{IsWritten}
+use Rattle.tree_reader.proofs.TablesOfParts.{SoFar}
 use Rattle.tree_reader.proofs.writer.write_tree.Given as goal
 
 abbrev pub invariant-loop-part : goal.invariant-loop-part
@@ -14,5 +15,6 @@ invariant-loop-part l = record {
       (meaning (asked l.flat.symbols l.flat.rules l.flat.shapes l.flat.root l.fn.strings) name_at name below end);
   ints : HaveInts (take l.part-index l.rest);
   few_nodes : length l.tree ≤ most_nodes;
+  so_far : SoFar l.fn.strings l.parts (l.part-index + 1) (length l.tree) l.strings;
   kept : Gains l.fn.strings l.strings;
 }

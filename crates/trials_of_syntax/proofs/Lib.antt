@@ -5,3 +5,4 @@ pub mod Tables
 pub mod SumOfItemsLemmas
 pub mod NestedStartLemmas
 pub mod NumberedListLemmas
+pub mod HandedDownLemmas

@@ -26,7 +26,7 @@ use Rattle.lido_syntax.specs.Nodes.{IsAt}
 use Rattle.trials_of_syntax.specs.Writing.{of_rules}
 use Rattle.trials_of_syntax.proofs.Members.{every}
 
-false_from : (b : Bool) → ¬ IsTrue b → b ≡ false
+pub false_from : (b : Bool) → ¬ IsTrue b → b ≡ false
 false_from true h = absurd (h refl)
 false_from false h = refl
 

@@ -6,9 +6,10 @@ use Rattle.lido_syntax.specs.declared.spec.Comp.{Comp}
 use Rattle.lido_syntax.specs.declared.spec.RuleItem.{RuleItem}
 use Rattle.lido_syntax.specs.declared.spec.SymbolItem.{SymbolItem}
 use Rattle.lido_syntax.specs.declared.spec.Place.TheVariants as place
+use Rattle.lido_syntax.specs.declared.spec.Target.TheVariants as target
 use Rattle.lido_syntax.specs.Production.{left_of}
 use Rattle.lido_syntax.specs.Computation.{Synthesized, Holder, InForce}
-use Rattle.trials_of_syntax.specs.Writing.{int, named, attr, comp, plain_rule, symbol_item, declaration}
+use Rattle.trials_of_syntax.specs.Writing.{name, int, call, read, named, attr, comp, plain_rule, symbol_item, declaration, typed, ADD}
 
 abbrev pub Top : ℕ
 Top = 20
@@ -76,6 +77,22 @@ class_of_class = with_symbols (class_c ∷ symbol_item true D (C ∷ []) (synt 1
 --   SYMBOL Z INHERITS C, D END;
 abbrev pub two_classes : Spec
 two_classes = with_symbols (class_c ∷ symbol_item true D [] (synt 1 2 ∷ []) ∷ symbol_item false Z (C ∷ D ∷ []) [] ∷ [])
+
+abbrev pub no : ℕ
+no = 31
+
+abbrev pub start : Comp
+start = comp 0 (target.Start (name no)) (int 1)
+
+abbrev pub next : Comp
+next = comp 1 (attr place.This no) (call ADD (read place.This no ∷ int 1 ∷ []))
+
+--   CHAIN no: int;
+--   CLASS SYMBOL C COMPUTE CHAINSTART HEAD.no = 1; END;
+--   SYMBOL Y COMPUTE THIS.no = THIS.no + 1; END;
+--   SYMBOL Z INHERITS C END;
+abbrev pub chain_in_symbols : Spec
+chain_in_symbols = record (with_symbols (symbol_item true C [] (start ∷ []) ∷ symbol_item false Y [] (next ∷ []) ∷ symbol_item false Z (C ∷ []) [] ∷ [])) { chains = typed no type.Int ∷ [] }
 
 -- the computation in force for v on the left side of the rule
 abbrev pub Forces : Spec → RuleItem → Holder → Comp → Type 0

@@ -6,3 +6,4 @@ pub mod Classes
 pub mod SumOfItems
 pub mod NestedStart
 pub mod NumberedList
+pub mod HandedDown

@@ -6,15 +6,19 @@
 
 mod chains;
 mod expressions;
+mod inherited;
 mod remote_access;
 mod symbol_computations;
 mod whole;
 
 pub use chains::{nested_start, numbered_list, tails};
 pub use expressions::values_of_expressions;
+pub use inherited::{
+    complete_right_sides, computing_nodes, inherited_kinds, listed_class, values_handed_down,
+};
 pub use remote_access::{nested_depths, shielded_sums};
 pub use symbol_computations::{
-    attribute_of_a_class, class_of_a_class, class_symbol_rule, two_classes_left,
+    attribute_of_a_class, chain_of_a_symbol, class_of_a_class, class_symbol_rule, two_classes_left,
 };
 pub use whole::{
     attribute_of_an_item, complete_specification, fitting_trees, incomplete_specification,

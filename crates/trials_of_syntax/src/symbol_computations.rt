@@ -3,9 +3,9 @@ ghost use Rattle.std.specs.Prelude.{◌≡◌};
 ghost use Rattle.lido_base.specs.declared.kinds.Kind.TheVariants as kind;
 ghost use Rattle.lido_base.specs.declared.value.ValueType.TheVariants as type_of;
 ghost use Rattle.lido_syntax.specs.Attributes.{Has, HasKind, HasType};
-ghost use Rattle.lido_syntax.specs.Computation.{Holder, by_rule, by_symbol, IsLeft, Synthesized};
+ghost use Rattle.lido_syntax.specs.Computation.{Holder, by_rule, by_symbol, InForce, IsLeft, Synthesized, Start, Behind};
 ghost use Rattle.lido_syntax.specs.declared.spec.Comp.{Comp};
-ghost use Rattle.trials_of_syntax.specs.Classes.{X, Y, Z, C, D, v, Forces, three, synt, x_rule, y_rule, z_rule, class_symbol_rule, class_of_class, two_classes};
+ghost use Rattle.trials_of_syntax.specs.Classes.{X, Y, Z, C, D, v, no, Forces, three, synt, start, next, x_rule, y_rule, z_rule, class_symbol_rule, class_of_class, two_classes, chain_in_symbols};
 
 /// The rule's own computation is in force at X, the symbol's own at Y, and that of the class at Z.
 pub fn class_symbol_rule()
@@ -33,4 +33,11 @@ pub fn attribute_of_a_class()
     ensures has { Has class_symbol_rule Z v }
     ensures kind { HasKind class_symbol_rule Z v kind.Synthesized }
     ensures type_ { HasType class_symbol_rule Z v type_of.Int }
+{}
+
+/// A class starts a chain at the symbols that inherit it, and by THIS a symbol says what stands behind it.
+pub fn chain_of_a_symbol()
+    ensures start { InForce chain_in_symbols z_rule 0 Z (Start no) by_symbol start }
+    ensures this { InForce chain_in_symbols y_rule 0 Y (Behind no) by_symbol next }
+    ensures no_start { (h : Holder) (c : Comp) → ¬ InForce chain_in_symbols y_rule 0 Y (Start no) h c }
 {}

@@ -1,0 +1,127 @@
+use Rattle.std.specs.Prelude.{◌≡◌, ℕ, pos, ◌↔◌, Some, IsSome, refl}
+use Rattle.std.proofs.Common.{arith, subst, sym, ◌∙◌, ap, inl, inr}
+use Rattle.lido_base.specs.declared.value.Origin.{Origin}
+use Rattle.lido_base.specs.declared.value.ValueType.{ValueType}
+use Rattle.lido_base.specs.declared.value.ValueType.TheVariants as type
+use Rattle.lido_base.specs.Operations.{operate, kept}
+use Rattle.lido_base.specs.Origins.{IsAtMost}
+use Rattle.lido_base.specs.Plain.{Plain, Int, Void, Bad}
+use Rattle.lido_base.specs.Tree.{from_children}
+use Rattle.lido_syntax.specs.declared.spec.Comp.{Comp}
+use Rattle.lido_syntax.specs.declared.spec.RuleItem.{RuleItem}
+use Rattle.lido_syntax.specs.Production.{left_of}
+use Rattle.lido_syntax.specs.Sets.{Sets}
+use Rattle.lido_syntax.specs.Assignment.{Assignment, Slot, Attribute, Front, Behind}
+use Rattle.lido_syntax.specs.Computation.{by_rule, of_rule}
+use Rattle.lido_syntax.specs.Constituents.{weight_of}
+use Rattle.lido_syntax.specs.Nodes as nodes
+use Rattle.lido_syntax.specs.Nodes.{IsAt, HasSymbol}
+use Rattle.lido_syntax.specs.Chains.{value_by, IsComputed}
+use Rattle.lido_syntax.specs.Attribution.{IsInstance, IsAttribution}
+use Rattle.lido_syntax.specs.Output.{IsOutput, WentWrong}
+use Rattle.lido_syntax.proofs.ExpressionLemmas.{value-Call}
+use Rattle.trials_of_syntax.specs.HandedDown.{spec, tree, rows, handed, of_the_sibling, of_the_child, zero_divisor, top_rule, left_rule, right_rule, three, five, quotient, out, Left, Right, i}
+use Rattle.trials_of_syntax.specs.Writing.{env}
+use Rattle.trials_of_syntax.proofs.Members.{some_same}
+use Rattle.trials_of_syntax.proofs.Tables.{each_row, each_value}
+use Rattle.trials_of_syntax.proofs.HandedDownLemmas.{by_node, only_handed, int_handed, has_left, has_right, type_left, computed, three_in_force, quotient_in_force, right_inherits, reaches_right, reaches_no_left, ReadsNoTail, no_tail_in_three, no_tail_in_five, no_tail_in_quotient, no_tail_in_out}
+use Rattle.trials_of_syntax.proofs.inherited.values_handed_down.Goals as goal
+
+first : HasSymbol spec tree 1 Left
+first = (left_rule, (1, refl, refl), refl)
+
+second : HasSymbol spec tree 2 Right
+second = (right_rule, (2, refl, refl), refl)
+
+third : HasSymbol spec tree 3 Left
+third = (left_rule, (1, refl, refl), refl)
+
+bad_same : (o p : Origin) → Bad o ≡ Bad p → o ≡ p
+bad_same o p e = cc
+
+abbrev node_of : Plain → ℕ
+node_of (Bad o) = o.node
+node_of _ = 0
+
+other_fault : ¬ (Some (Bad (zero_divisor 3 4)) ≡ Some (Bad (zero_divisor 2 4)))
+other_fault e = let same : 3 ≡ 2 = ap node_of (some_same (Bad (zero_divisor 3 4)) (Bad (zero_divisor 2 4)) e) in absurd (omega (arith, same))
+
+module _ (sets : Sets spec) where
+  domain : (m : ℕ) (slot : Slot) → IsSome (handed m slot) ↔ IsInstance spec sets env tree m slot
+  domain m slot = (each_row (IsInstance spec sets env tree) rows ((Left, first, has_left), ((Right, second, has_right), ((Left, third, has_left), tt))) m slot, found slot)
+    where
+      found : (slot : Slot) → IsInstance spec sets env tree m slot → IsSome (handed m slot)
+      found (Attribute a) (s, (r, at, e), h) = let is = only_handed s a h in subst (λ a. IsSome (handed m (Attribute a))) (sym is.1)
+          (by_node (λ m r. left_of r ≡ s → IsSome (handed m (Attribute i))) (λ e. absurd (is.0 (sym e))) (λ e. refl) (λ e. refl) (λ e. refl) m r at e)
+      found (Front c) (h, k) = cc
+      found (Behind c) (h, k) = cc
+
+  computed_at : (A : Assignment) (n : ℕ) (v : Plain) (r : RuleItem) (c : Comp) → IsAt spec tree n r → ReadsNoTail c → v ≡ value_by spec sets env tree A (λ c. Void) n r c → IsComputed spec sets env tree A n c v
+  computed_at A n v r c at none e = (r, (λ c. Void), at, (λ chain h. absurd (none h.0 h.1)), e)
+
+  -- at its context the computation has a value that the node's attribute keeps
+  abbrev IsValue : ℕ → ℕ → Comp → Type 0
+  IsValue m context c = (v : Plain) × IsComputed spec sets env tree handed context c v × (handed m (Attribute i) ≡ Some (kept type.Int v))
+
+  quotient_value : Bad (zero_divisor 2 4) ≡ value_by spec sets env tree handed (λ c. Void) 2 right_rule quotient
+  unfolding operate
+  quotient_value = simp (value-Call spec sets env tree handed right_rule 4 2 (λ c. Void)) refl
+
+  values : (m a context : ℕ) (c : Comp) → nodes.Computes spec tree m a context c → IsValue m context c
+  values m a context c h = computed IsValue
+      (Int (pos 3), computed_at handed 0 (Int (pos 3)) top_rule three (0, refl, refl) no_tail_in_three refl, refl)
+      (Int (pos 5), computed_at handed 2 (Int (pos 5)) right_rule five (2, refl, refl) no_tail_in_five refl, refl)
+      (Bad (zero_divisor 2 4), computed_at handed 2 (Bad (zero_divisor 2 4)) right_rule quotient (2, refl, refl) no_tail_in_quotient quotient_value, refl)
+      m a c context h
+
+  kept_as : (m a context : ℕ) (ty : ValueType) (c : Comp) → a ≡ i → ty ≡ type.Int → IsValue m context c
+      → (v : Plain) × IsComputed spec sets env tree handed context c v × (handed m (Attribute a) ≡ Some (kept ty v))
+  kept_as m a context ty c ea et h = subst (λ a. (v : Plain) × IsComputed spec sets env tree handed context c v × (handed m (Attribute a) ≡ Some (kept ty v))) (sym ea)
+      (subst (λ ty. (v : Plain) × IsComputed spec sets env tree handed context c v × (handed m (Attribute i) ≡ Some (kept ty v))) (sym et) h)
+
+  attribution : IsAttribution spec sets env tree handed
+  attribution = record {
+    domain = domain;
+    values = λ m a s context ty c hs has ht comp. let is = only_handed s a has in kept_as m a context ty c is.1 (int_handed s a ty is.1 ht) (values m a context c comp);
+    chains = λ c h. cc;
+  }
+
+  sibling : ¬ IsAttribution spec sets env tree of_the_sibling
+  sibling a = refuse (a.values 1 i Left 0 type.Int three first has_left type_left (nodes.inherited_of_rule 0 1 Left top_rule refl (0, refl, refl) first three_in_force))
+    where
+      refuse : ¬ ((v : Plain) × IsComputed spec sets env tree of_the_sibling 0 three v × (of_the_sibling 1 (Attribute i) ≡ Some (kept type.Int v)))
+      refuse (v, (r, tail, at, tails, f), e) = let wrong : Some (Int (pos 5)) ≡ Some (Int (pos 3)) = e ∙ ap (λ v. Some (kept type.Int v)) f in cc
+
+  faulty : (tail : ℕ → Plain) → value_by spec sets env tree of_the_child tail 2 right_rule quotient ≡ Bad (zero_divisor 2 4)
+  unfolding operate
+  faulty tail = simp (value-Call spec sets env tree of_the_child right_rule 4 2 tail) refl
+
+  at_the_rule : (r : RuleItem) (tail : ℕ → Plain) → IsAt spec tree 2 r → value_by spec sets env tree of_the_child tail 2 r quotient ≡ Bad (zero_divisor 2 4)
+  at_the_rule r tail at = by_node (λ m r. m ≡ 2 → value_by spec sets env tree of_the_child tail m r quotient ≡ Bad (zero_divisor 2 4)) (λ same. cc) (λ same. cc) (λ same. faulty tail) (λ same. cc) 2 r at refl
+
+  child : ¬ IsAttribution spec sets env tree of_the_child
+  child a = refuse (a.values 3 i Left 2 type.Int quotient third has_left type_left (nodes.inherited_of_rule 2 1 Left right_rule refl (2, refl, refl) third quotient_in_force))
+    where
+      refuse : ¬ ((v : Plain) × IsComputed spec sets env tree of_the_child 2 quotient v × (of_the_child 3 (Attribute i) ≡ Some (kept type.Int v)))
+      refuse (v, (r, tail, at, tails, f), e) = other_fault (e ∙ ap (λ v. Some (kept type.Int v)) (f ∙ at_the_rule r tail at))
+
+  output_value : Bad (zero_divisor 0 2) ≡ value_by spec sets env tree handed (λ c. Void) 0 top_rule out
+  unfolding operate from_children weight_of
+  output_value = simp (value-Call spec sets env tree handed top_rule 2 0 (λ c. Void), right_inherits sets, reaches_right sets, reaches_no_left sets) refl
+
+  output : IsOutput spec sets env tree handed (Bad (zero_divisor 0 2))
+  output = inl (out, (top_rule, by_rule, (0, refl, refl), of_rule ((1, omega arith, refl), tt)), computed_at handed 0 (Bad (zero_divisor 0 2)) top_rule out (0, refl, refl) no_tail_in_out output_value)
+
+  -- of the two faults that at the root is the least
+  least : (o : Origin) → WentWrong spec sets env tree handed (Bad (zero_divisor 0 2)) o → IsAtMost (zero_divisor 0 2) o
+  least o (inl e) = subst (IsAtMost (zero_divisor 0 2)) (bad_same (zero_divisor 0 2) o e) (inr (refl, inr (refl, omega arith)))
+  least o (inr (m, a, e)) = each_value (λ v. v ≡ Bad o → IsAtMost (zero_divisor 0 2) o) rows
+      ((λ f. cc), ((λ f. cc), ((λ f. subst (IsAtMost (zero_divisor 0 2)) (bad_same (zero_divisor 2 4) o f) (inl (omega arith))), tt))) m (Attribute a) (Bad o) e refl
+
+pub returns : goal.returns
+returns c = record {
+  attribution = attribution;
+  sibling = sibling;
+  child = child;
+  result = λ sets. (Bad (zero_divisor 0 2), output sets, inl refl, least sets);
+}

@@ -27,7 +27,8 @@ fn is_planned(alloc: Global, size: Size, flow: Flow) -> Result<bool, Memory>
     }
 }
 
-/// Whether the grammars of this size have sound plans, each in less than so many seconds, for each of the flows.
+/// Whether the grammars of this size have sound plans, each in less than so many seconds, for each of the flows. The bounds are
+/// wide, since the machine may do other work beside: without it the slowest takes less than a quarter of a minute.
 fn are_planned(rt: &HostRuntime, size: Size, flows: &[Flow], seconds: u64) -> Result<bool, Fail>
     requires { IsWithin size }
 {
@@ -65,8 +66,8 @@ const FLOWS: [Flow; 4] = [Flow::Straight, Flow::Turns, Flow::Dense, Flow::Late];
 #[test]
 fn two_hundred_rules(rt: HostRuntime) -> Result<(), Fail> {
     for bottom_up in [false, true] {
-        assert!(rt; are_planned(&rt, rules(200, 10, 3, bottom_up), &FLOWS, 5)?);
-        assert!(rt; are_planned(&rt, rules(200, 128, 7, bottom_up), &FLOWS, 10)?);
+        assert!(rt; are_planned(&rt, rules(200, 10, 3, bottom_up), &FLOWS, 30)?);
+        assert!(rt; are_planned(&rt, rules(200, 128, 7, bottom_up), &FLOWS, 60)?);
     }
     Ok(())
 }
@@ -74,8 +75,8 @@ fn two_hundred_rules(rt: HostRuntime) -> Result<(), Fail> {
 #[test]
 fn many_children(rt: HostRuntime) -> Result<(), Fail> {
     for bottom_up in [false, true] {
-        assert!(rt; are_planned(&rt, rules(40, 4, 255, bottom_up), &FLOWS, 10)?);
-        assert!(rt; are_planned(&rt, rules(200, 1, 1_023, bottom_up), &FLOWS, 10)?);
+        assert!(rt; are_planned(&rt, rules(40, 4, 255, bottom_up), &FLOWS, 60)?);
+        assert!(rt; are_planned(&rt, rules(200, 1, 1_023, bottom_up), &FLOWS, 60)?);
     }
     Ok(())
 }
@@ -83,12 +84,12 @@ fn many_children(rt: HostRuntime) -> Result<(), Fail> {
 #[test]
 fn each_flow_at_the_limits(rt: HostRuntime) -> Result<(), Fail> {
     let size = rules(1_024, 128, 7, false);
-    assert!(rt; are_planned(&rt, size, &[Flow::Straight, Flow::Turns, Flow::Late], 60)?);
+    assert!(rt; are_planned(&rt, size, &[Flow::Straight, Flow::Turns, Flow::Late], 300)?);
     Ok(())
 }
 
 #[test]
 fn dense_at_the_limits(rt: HostRuntime) -> Result<(), Fail> {
-    assert!(rt; are_planned(&rt, rules(1_024, 128, 7, false), &[Flow::Dense], 60)?);
+    assert!(rt; are_planned(&rt, rules(1_024, 128, 7, false), &[Flow::Dense], 300)?);
     Ok(())
 }

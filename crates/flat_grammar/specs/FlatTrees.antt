@@ -1,9 +1,9 @@
 -- The flat tree of a written tree: under each list node stands a chain of cells, each with one element and the next cell, the
--- last with nothing. Our own normal form of lists.
+-- last with nothing; a cell has its list's line and column. Our own normal form of lists.
 use Rattle.std.specs.Prelude.{◌≡◌, ℕ, ◌<◌, Bool, true, false, ◌&&◌, IsTrue, List, [], ◌∷◌, length, Some, slice_get, Contains}
 use Rattle.std.specs.List.{list_any}
 use Rattle.lido_base.specs.declared.ids.SymId.{SymId}
-use Rattle.lido_base.specs.Tree.{Tree, Item, Child, Leaf, IsTree, rule_at, items_of, children}
+use Rattle.lido_base.specs.Tree.{Tree, Item, Child, Leaf, IsTree, rule_at, line_of, column_of, items_of, children}
 use Rattle.flat_grammar.specs.declared.flat.FlatSymbol.{FlatSymbol}
 use Rattle.flat_grammar.specs.declared.flat.FlatRule.{FlatRule}
 use Rattle.flat_grammar.specs.declared.flat.Shape.{Shape}
@@ -47,6 +47,9 @@ module _ (symbols : List FlatSymbol) (rules : List FlatRule) (shapes : List Shap
       pub in_order : (n m w x : ℕ) → StandsFor n w → StandsFor m x → n < m → w < x
       pub all_written : (w : ℕ) → w < length written → (n : ℕ) × StandsFor n w
       pub same_rules : (n w : ℕ) → StandsFor n w → rule_at flat n ≡ rule_at written w
+      -- each has the line and the column of its written node, a cell those of its list
+      pub same_lines : (n w : ℕ) → slice_get node_of n ≡ Some w → line_of flat n ≡ line_of written w
+      pub same_columns : (n w : ℕ) → slice_get node_of n ≡ Some w → column_of flat n ≡ column_of written w
       pub plain_nodes : (n w : ℕ) (shape : Shape) → Contains shapes shape → StandsFor n w → rule_at flat n ≡ Some shape.rule.0 → shape.list ≡ false → AreItems (items_of flat n) (items_of written w)
       pub list_nodes : (n w : ℕ) (shape : Shape) → Contains shapes shape → StandsFor n w → rule_at flat n ≡ Some shape.rule.0 → shape.list ≡ true
           → (c : ℕ) × (items_of flat n ≡ Child c ∷ []) × AreCells (cell_of symbols rules shape) w c (children written w)

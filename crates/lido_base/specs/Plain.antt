@@ -35,6 +35,7 @@ module _ (texts : List (List ℕ)) where
   plain_item (Child c) = Child c
   plain_item (Leaf v) = Leaf (plain v)
 
-  -- The tree with plain terminals.
+  -- The tree with plain terminals, and all else as it was.
   abbrev pub plain_tree : Tree Value → Tree Plain
-  plain_tree t = map (λ node. record { rule = node.rule; parent = node.parent; place = node.place; items = map plain_item node.items }) t
+  plain_tree t =
+      map (λ node. record { rule = node.rule; parent = node.parent; place = node.place; line = node.line; column = node.column; items = map plain_item node.items }) t

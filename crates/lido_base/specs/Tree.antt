@@ -3,6 +3,8 @@
 use Rattle.std.specs.Prelude.{◌≡◌, ℕ, zero, suc, ◌+◌, ◌-◌, ◌<◌, List, [], ◌∷◌, ◌++◌, length, Option, Some, None, slice_get, option_and_then, option_map, filter_map, Bool, false, ◌||◌, ◌&&◌, IsTrue, nat_eq, nat_lt, Contains}
 use Rattle.std.specs.List.{list_any}
 use Rattle.std.specs.List.Sorted.{IsStrictlyIncreasing}
+use Rattle.lido_base.specs.declared.kinds.CoordPart.{CoordPart}
+use Rattle.lido_base.specs.declared.kinds.CoordPart.TheVariants.{Line, Col}
 
 -- What stands at a place of a node: a child node, by its number, or a terminal.
 pub data Item (V : Type 0) : Type 0 where
@@ -10,11 +12,13 @@ pub data Item (V : Type 0) : Type 0 where
   Leaf : V → Item V
 
 -- A node: the number of its rule, its parent if it has one, its place among the parent's items, counted from 1 and 0 at the
--- root, and what stands at its own places.
+-- root, its line and its column in the text that it stands for, and what stands at its own places.
 pub record Node (V : Type 0) : Type 0 where
   pub rule : ℕ
   pub parent : Option ℕ
   pub place : ℕ
+  pub line : ℕ
+  pub column : ℕ
   pub items : List (Item V)
 
 -- A tree: node n is entry n of the table.
@@ -57,6 +61,19 @@ module _ {V : Type 0} (t : Tree V) where
   -- The place of a node among its parent's items, counted from 1, and 0 at the root.
   abbrev pub place_of : ℕ → ℕ
   place_of n = elim (slice_get t n) [ None ↦ 0 | Some node ↦ node.place ]
+
+  -- The line of a node; 0 where there is no node.
+  abbrev pub line_of : ℕ → ℕ
+  line_of n = elim (slice_get t n) [ None ↦ 0 | Some node ↦ node.line ]
+
+  -- The column of a node; 0 where there is no node.
+  abbrev pub column_of : ℕ → ℕ
+  column_of n = elim (slice_get t n) [ None ↦ 0 | Some node ↦ node.column ]
+
+  -- The line or the column of a node.
+  abbrev pub coordinate : ℕ → CoordPart → ℕ
+  coordinate n Line = line_of n
+  coordinate n Col = column_of n
 
   -- What stands at a node's places, in order.
   abbrev pub items_of : ℕ → List (Item V)
@@ -115,7 +132,8 @@ with_item [] n x = []
 with_item (node ∷ t) zero x = record node { items = node.items ++ x ∷ [] } ∷ t
 with_item (node ∷ t) (suc n) x = node ∷ with_item t n x
 
--- The tree with one more node, of this rule and behind the items of this parent.
-abbrev pub with_node : {V : Type 0} → Tree V → ℕ → Option ℕ → Tree V
-with_node t rule None = t ++ record { rule = rule; parent = None; place = 0; items = [] } ∷ []
-with_node t rule (Some p) = with_item t p (Child (length t)) ++ record { rule = rule; parent = Some p; place = places t p + 1; items = [] } ∷ []
+-- The tree with one more node, of this rule, behind the items of this parent, and with this line and column.
+abbrev pub with_node : {V : Type 0} → Tree V → ℕ → Option ℕ → ℕ → ℕ → Tree V
+with_node t rule None line column = t ++ record { rule = rule; parent = None; place = 0; line = line; column = column; items = [] } ∷ []
+with_node t rule (Some p) line column =
+    with_item t p (Child (length t)) ++ record { rule = rule; parent = Some p; place = places t p + 1; line = line; column = column; items = [] } ∷ []

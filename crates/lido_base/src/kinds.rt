@@ -1,10 +1,17 @@
-//! Kinds of attributes, of limits and of faulty command words.
+//! Kinds of attributes, of coordinates, of limits and of faulty command words.
 
 /// Which side of a rule computes an attribute: the rules of its symbol, or those that its symbol stands in.
 #[derive(Clone, Copy, Debug, PartialEq, Eq)]
 pub enum Kind {
     Synthesized,
     Inherited,
+}
+
+/// Which coordinate of a node: its line or its column.
+#[derive(Clone, Copy, Debug, PartialEq, Eq)]
+pub enum CoordPart {
+    Line,
+    Col,
 }
 
 /// What there is too much of.

@@ -21,7 +21,7 @@ pub use boxed::Boxed;
 pub use contents::Contents;
 pub use decimal::Decimal;
 pub use ids::{AttrId, NodeId, RuleId, StrId, SymId};
-pub use kinds::{Kind, Many, WordKind};
+pub use kinds::{CoordPart, Kind, Many, WordKind};
 pub use list::List;
 pub use mem_sink::MemSink;
 pub use mem_source::MemSource;

@@ -6,7 +6,7 @@ use Rattle.lido_base.specs.Plain.{Plain, Int, Text, Bad}
 use Rattle.lido_base.specs.Tree.{Tree, Node, Item, Child, Leaf}
 
 abbrev pub node : ℕ → Option ℕ → ℕ → List (Item Plain) → Node Plain
-node rule parent place items = record { rule = rule; parent = parent; place = place; items = items }
+node rule parent place items = record { rule = rule; parent = parent; place = place; line = 0; column = 0; items = items }
 
 abbrev pub number : ℕ → Item Plain
 number n = Leaf (Int (pos n))

@@ -137,10 +137,10 @@ of_rules rules attrs terms chains = record { rules = rules; symbols = []; attrs 
 
 -- the root of a tree, and another node: its rule, its parent and place, its items
 abbrev pub root : ℕ → List (Item Plain) → Node Plain
-root r items = record { rule = r; parent = None; place = 0; items = items }
+root r items = record { rule = r; parent = None; place = 0; line = 0; column = 0; items = items }
 
 abbrev pub node : ℕ → ℕ → ℕ → List (Item Plain) → Node Plain
-node r parent place items = record { rule = r; parent = Some parent; place = place; items = items }
+node r parent place items = record { rule = r; parent = Some parent; place = place; line = 0; column = 0; items = items }
 
 abbrev pub is_slot : Slot → Slot → Bool
 is_slot (Attribute a) (Attribute b) = nat_eq a b

@@ -3,7 +3,7 @@ use Rattle.std.specs.Prelude.{ℕ, ◌+◌, List, [], ◌∷◌, Option, Some, N
 use Rattle.lido_base.specs.Tree.{Tree, Node, Item, Child, Leaf, children, with_item, with_node}
 
 abbrev pub node : ℕ → Option ℕ → ℕ → List (Item ℕ) → Node ℕ
-node rule parent place items = record { rule = rule; parent = parent; place = place; items = items }
+node rule parent place items = record { rule = rule; parent = parent; place = place; line = 0; column = 0; items = items }
 
 -- A list of three items, the second of which is a group with two.
 abbrev pub listed : Tree ℕ
@@ -19,12 +19,12 @@ listed =
 -- The same, built node by node in preorder, each terminal after its node.
 abbrev pub built : Tree ℕ
 built =
-    let root = with_node [] 0 None in
-    let first = with_item (with_node root 1 (Some 0)) 1 (Leaf 10) in
-    let second = with_item (with_node first 2 (Some 0)) 2 (Leaf 7) in
-    let third = with_item (with_node second 1 (Some 2)) 3 (Leaf 20) in
-    let fourth = with_item (with_node third 1 (Some 2)) 4 (Leaf 30) in
-    with_item (with_node fourth 1 (Some 0)) 5 (Leaf 40)
+    let root = with_node [] 0 None 0 0 in
+    let first = with_item (with_node root 1 (Some 0) 0 0) 1 (Leaf 10) in
+    let second = with_item (with_node first 2 (Some 0) 0 0) 2 (Leaf 7) in
+    let third = with_item (with_node second 1 (Some 2) 0 0) 3 (Leaf 20) in
+    let fourth = with_item (with_node third 1 (Some 2) 0 0) 4 (Leaf 30) in
+    with_item (with_node fourth 1 (Some 0) 0 0) 5 (Leaf 40)
 
 -- The root, and node 2, which says that the root is its parent, while no node has it as a child.
 abbrev pub orphan : Tree ℕ

@@ -39,8 +39,8 @@ pub fn computed_over_a_tree()
     ensures of_an_item { from_children listed 0 count_below 3 ≡ 1 }
 {}
 
-/// Terminals become plain: a string its bytes, an int itself. Nothing else of the tree changes.
+/// Terminals become plain: a string its bytes, an int itself. Nothing else of the tree changes, line and column neither.
 pub fn plain_terminals()
-    ensures { plain_tree texts (with_item (with_item (with_node [] 4 None) 0 (Leaf (value.Str (id 1)))) 0 (Leaf (value.Int (pos 8))))
-        ≡ with_item (with_item (with_node [] 4 None) 0 (Leaf (plain.Str (codes " ")))) 0 (Leaf (plain.Int (pos 8))) }
+    ensures { plain_tree texts (with_item (with_item (with_node [] 4 None 3 7) 0 (Leaf (value.Str (id 1)))) 0 (Leaf (value.Int (pos 8))))
+        ≡ with_item (with_item (with_node [] 4 None 3 7) 0 (Leaf (plain.Str (codes " ")))) 0 (Leaf (plain.Int (pos 8))) }
 {}

@@ -6,5 +6,6 @@ pub mod ReachLemmas
 pub mod OriginsLemmas
 pub mod TreeTests
 pub mod PhasesLemmas
+pub mod FaultsLemmas
 pub mod ReadingLemmas
 pub mod DecimalLemmas

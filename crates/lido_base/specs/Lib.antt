@@ -2,9 +2,11 @@ pub mod formers
 pub mod Causes
 pub mod Inputs
 pub mod Phases
+pub mod Faults
 pub mod Texts
 pub mod Plain
 pub mod Operations
+pub mod Environment
 pub mod Tree
 pub mod Equations
 pub mod Reach

@@ -8,7 +8,7 @@ use Rattle.lido_syntax.specs.declared.spec.Comp.{Comp}
 use Rattle.lido_syntax.specs.declared.spec.RuleItem.{RuleItem}
 use Rattle.lido_syntax.specs.Production.{left_of, name_of}
 use Rattle.lido_syntax.specs.Assignment.{Assignment, Behind, value_at}
-use Rattle.lido_syntax.specs.Functions.{Environment}
+use Rattle.lido_base.specs.Environment.{Environment}
 use Rattle.lido_syntax.specs.Sets.{Sets}
 use Rattle.lido_syntax.specs.Computation.{Goal, Start, InForce}
 use Rattle.lido_syntax.specs.Completeness.{IsSingle}

@@ -8,7 +8,7 @@ use Rattle.lido_syntax.specs.declared.spec.Spec.{Spec}
 use Rattle.lido_syntax.specs.declared.spec.Cons.{Cons}
 use Rattle.lido_syntax.specs.declared.spec.With.{With}
 use Rattle.lido_syntax.specs.Assignment.{Assignment, Attribute, value_at}
-use Rattle.lido_syntax.specs.Functions.{Environment}
+use Rattle.lido_base.specs.Environment.{Environment}
 use Rattle.lido_syntax.specs.Sets.{Sets, is_shield}
 use Rattle.lido_syntax.specs.Including.{listed, symbol_at}
 use Rattle.lido_syntax.specs.Constituents.{weight_of, weigh, source_weight, below, combined, call}

@@ -17,7 +17,8 @@ use Rattle.lido_syntax.specs.declared.spec.Expr.TheBlock.{hidden-the_row-Expr-0}
 use Rattle.lido_syntax.specs.Production.{name_of}
 use Rattle.lido_syntax.specs.Attributes.{Use, reads, reads_of_all}
 use Rattle.lido_syntax.specs.Assignment.{Assignment}
-use Rattle.lido_syntax.specs.Functions.{Environment, called}
+use Rattle.lido_base.specs.Environment.{Environment}
+use Rattle.lido_syntax.specs.Functions.{called}
 use Rattle.lido_syntax.specs.Sets.{Sets}
 use Rattle.lido_syntax.specs.Value.{value, values, read}
 

@@ -9,7 +9,7 @@ use Rattle.lido_syntax.specs.declared.spec.Comp.{Comp}
 use Rattle.lido_syntax.specs.Symbols.{IsChain}
 use Rattle.lido_syntax.specs.Assignment.{Assignment, Slot, Attribute, Front, Behind}
 use Rattle.lido_syntax.specs.Attributes.{Has, HasType}
-use Rattle.lido_syntax.specs.Functions.{Environment}
+use Rattle.lido_base.specs.Environment.{Environment}
 use Rattle.lido_syntax.specs.Nodes.{HasSymbol, IsUnder, Computes}
 use Rattle.lido_syntax.specs.Sets.{Sets}
 use Rattle.lido_syntax.specs.Chains.{IsComputed, IsThreaded}

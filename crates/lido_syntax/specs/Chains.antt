@@ -11,7 +11,7 @@ use Rattle.lido_syntax.specs.Production.{name_of}
 use Rattle.lido_syntax.specs.Attributes.{reads}
 use Rattle.lido_syntax.specs.Computation as goal
 use Rattle.lido_syntax.specs.Assignment.{Assignment, Front, Behind, value_at}
-use Rattle.lido_syntax.specs.Functions.{Environment}
+use Rattle.lido_base.specs.Environment.{Environment}
 use Rattle.lido_syntax.specs.Nodes.{IsAt, InForceAt, HasInForce, IsUnder}
 use Rattle.lido_syntax.specs.Sets.{Sets}
 use Rattle.lido_syntax.specs.Value.{value}

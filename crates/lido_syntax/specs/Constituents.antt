@@ -8,7 +8,8 @@ use Rattle.lido_syntax.specs.declared.spec.Cons.{Cons}
 use Rattle.lido_syntax.specs.declared.spec.With.{With}
 use Rattle.lido_syntax.specs.Production.{name_of}
 use Rattle.lido_syntax.specs.Assignment.{Assignment, Attribute, value_at}
-use Rattle.lido_syntax.specs.Functions.{Environment, called}
+use Rattle.lido_base.specs.Environment.{Environment}
+use Rattle.lido_syntax.specs.Functions.{called}
 use Rattle.lido_syntax.specs.Sets.{Sets, is_shield}
 use Rattle.lido_syntax.specs.Including.{listed, symbol_at}
 

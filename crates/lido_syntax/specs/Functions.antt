@@ -6,12 +6,8 @@ use Rattle.lido_base.specs.declared.operation.Op.{Op}
 use Rattle.lido_base.specs.declared.operation.Op.TheVariants as op
 use Rattle.lido_base.specs.declared.pattern.Pattern.{Pattern}
 use Rattle.lido_base.specs.Plain.{Plain, Void}
+use Rattle.lido_base.specs.Environment.{Environment}
 use Rattle.lido_base.specs.Operations.{operate, unless_bad, chosen, last}
-
--- what ids and names stand for: the texts by id, and the patterns
-pub record Environment : Type 0 where
-  pub texts : List (List ℕ)
-  pub patterns : List Pattern
 
 -- the operation of each function name but those of patterns
 abbrev pub operation_names : List (List ℕ × Op)

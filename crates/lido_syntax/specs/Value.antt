@@ -11,7 +11,8 @@ use Rattle.lido_syntax.specs.declared.spec.Place.TheVariants as place
 use Rattle.lido_syntax.specs.declared.spec.Expr.{Expr, Int, Str, Bool, Terminal, Read, Including, Constituents, Call', Row_of-Expr, end_of-Expr, more_of-Expr}
 use Rattle.lido_syntax.specs.Production.{name_of, occurrence}
 use Rattle.lido_syntax.specs.Assignment.{Assignment, Attribute, Front, value_at}
-use Rattle.lido_syntax.specs.Functions.{Environment, text_of, called}
+use Rattle.lido_base.specs.Environment.{Environment}
+use Rattle.lido_syntax.specs.Functions.{text_of, called}
 use Rattle.lido_syntax.specs.Sets.{Sets}
 use Rattle.lido_syntax.specs.Including.{up}
 use Rattle.lido_syntax.specs.Constituents.{constituents_at}

@@ -25,7 +25,7 @@ use Rattle.lido_syntax.specs.declared.spec.Expr.TheVariants as expr
 use Rattle.lido_syntax.specs.declared.spec.RuleItem.{RuleItem}
 use Rattle.lido_syntax.specs.declared.spec.Target.TheVariants as target
 use Rattle.lido_syntax.specs.Assignment.{Assignment, Attribute, Front, Behind}
-use Rattle.lido_syntax.specs.Functions.{Environment}
+use Rattle.lido_base.specs.Environment.{Environment}
 use Rattle.trials_of_syntax.specs.Writing.{Row, name, int, call, terminal, read, named, attr, comp, constituents, in_a_row, plain_rule, list_rule, declaration, typed, of_rules, root, node, assigned, function_texts, ADD}
 
 abbrev pub Line : ℕ

@@ -6,7 +6,7 @@ use Rattle.lido_base.specs.declared.value.ValueType.TheVariants as type
 use Rattle.lido_base.specs.Plain.{Plain}
 use Rattle.lido_base.specs.Tree.{Node, Item}
 use Rattle.lido_syntax.specs.Assignment.{Assignment, Slot, Attribute, Front, Behind}
-use Rattle.lido_syntax.specs.Functions.{Environment}
+use Rattle.lido_base.specs.Environment.{Environment}
 use Rattle.lido_syntax.specs.declared.spec.Spec.{Spec}
 use Rattle.lido_syntax.specs.declared.spec.Name.{Name}
 use Rattle.lido_syntax.specs.declared.spec.Comp.{Comp}

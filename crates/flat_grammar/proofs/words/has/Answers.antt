@@ -1,6 +1,6 @@
 use Rattle.std.proofs.Common.{◌≡◌, ◌≤◌, ◌<◌, suc, arith, leb-true}
 use Rattle.flat_grammar.proofs.BitsLemmas.{not-above}
-use Rattle.flat_grammar.proofs.bits.has.Goals as goal
+use Rattle.flat_grammar.proofs.words.has.Goals as goal
 
 pub returns-else-k-lt128 : goal.returns-else-k-lt128
 returns-else-k-lt128 c = (

@@ -156,10 +156,14 @@ first_low n low high k is below set least = (omega arith, (low_bits n low high k
 
 pub first_high : (n low high k : ℕ) → number_of low high ≡ n → low < 2 ^ 128 → ((j : ℕ) → IsBitSet low j → ⊥) → k < 128 → IsBitSet high k → ((j : ℕ) → j < k → IsBitSet high j → ⊥)
     → (128 + k < 256) × IsBitSet n (128 + k) × ((j : ℕ) → j < 128 + k → IsBitSet n j → ⊥)
-first_high n low high k is small none below set least = (omega arith, (high_bit n low high k is small).0 set, λ j b h. elim (cases_lt j 128) [
-  | inl l ↦ none j ((low_bits n low high j is l).1 h)
-  | inr a ↦ least (j - 128) (omega arith) ((high_bits n low high j is small a).1 h)
-])
+first_high n low high k is small none below set least = (
+  omega arith,
+  (high_bit n low high k is small).0 set,
+  λ j b h. elim (cases_lt j 128) [
+    | inl l ↦ none j ((low_bits n low high j is l).1 h)
+    | inr a ↦ least (j - 128) (omega arith) ((high_bits n low high j is small a).1 h)
+  ],
+)
 
 pub none_halves : (n low high : ℕ) → number_of low high ≡ n → low < 2 ^ 128 → ((j : ℕ) → IsBitSet low j → ⊥) → ((j : ℕ) → IsBitSet high j → ⊥) → (j : ℕ) → IsBitSet n j → ⊥
 none_halves n low high is small l h j set = elim (cases_lt j 128) [ inl b ↦ l j ((low_bits n low high j is b).1 set) | inr a ↦ h (j - 128) ((high_bits n low high j is small a).1 set) ]

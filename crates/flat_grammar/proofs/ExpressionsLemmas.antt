@@ -4,7 +4,7 @@ use Rattle.std.proofs.Common.{ap, sym, ◌∙◌}
 use Rattle.std.proofs.lemmas.List.Sums.{sum_by-cons}
 use mathlib.Core.Former.{Count}
 use Rattle.lido_base.specs.declared.operation.Op.{Op}
-use Rattle.lido_base.specs.declared.pattern.Pattern.{Pattern}
+use Rattle.lido_base.specs.Environment.{Environment}
 use Rattle.lido_base.specs.Plain.{Plain}
 use Rattle.lido_base.specs.Tree.{Tree}
 use Rattle.lido_base.specs.Operations.{operate, unless_bad, chosen, last}
@@ -14,6 +14,7 @@ use Rattle.flat_grammar.specs.declared.flat.FlatExpr as whole
 use Rattle.flat_grammar.specs.declared.flat.FlatExpr.TheBlock.{hidden-the_row-FlatExpr-0}
 use Rattle.flat_grammar.specs.Rules.{reads, reads_of_all, terminals_of, terminals_of_all}
 use Rattle.flat_grammar.specs.Fitting.{cells, cells_of_all, own_cells, width}
+use Rattle.flat_grammar.specs.WholeOrder.{Instance}
 use Rattle.flat_grammar.specs.FlatAttribution.{value_of, values_of, fails}
 
 reads-items : (m : Count) (k : whole.Row_of-FlatExpr m) → reads_of_all k ≡ flat_map reads (whole.items-the_row-FlatExpr m k)
@@ -71,19 +72,19 @@ cells-If args = cells-row args
 pub cells-Order : (args : List FlatExpr) → cells (e.Order args) ≡ sum_by cells args
 cells-Order args = cells-row args
 
-module _ (texts : List (List ℕ)) (patterns : List Pattern) (t : Tree Plain) (node_of : List ℕ) (B : ℕ → ℕ → Plain) (origin n : ℕ) where
+module _ (env : Environment) (t : Tree Plain) (node_of : List ℕ) (B : Instance → Plain) (origin n : ℕ) where
   abbrev value : FlatExpr → Plain
-  value x = value_of texts patterns t node_of B origin n x
+  value x = value_of env t node_of B origin n x
 
-  values-items : (m : Count) (k : whole.Row_of-FlatExpr m) → values_of texts patterns t node_of B origin n k ≡ map value (whole.items-the_row-FlatExpr m k)
+  values-items : (m : Count) (k : whole.Row_of-FlatExpr m) → values_of env t node_of B origin n k ≡ map value (whole.items-the_row-FlatExpr m k)
   values-items m whole.end_of-FlatExpr = refl
   values-items m (whole.more_of-FlatExpr x es) = ap (λ l. value x ∷ l) (values-items _ es)
 
-  values-row : (args : List FlatExpr) → values_of texts patterns t node_of B origin n (hidden-the_row-FlatExpr-0 args) ≡ map value args
+  values-row : (args : List FlatExpr) → values_of env t node_of B origin n (hidden-the_row-FlatExpr-0 args) ≡ map value args
   values-row args = values-items _ (hidden-the_row-FlatExpr-0 args) ∙ ap (map value) (whole.items_hidden-the_row-FlatExpr-0 args)
 
-  pub value-Apply : (comp : ℕ) (op : Op) (args : List FlatExpr) → value (e.Apply comp op args) ≡ operate texts patterns (fails texts patterns t node_of B origin n comp) op (map value args)
-  value-Apply comp op args = ap (operate texts patterns (fails texts patterns t node_of B origin n comp) op) (values-row args)
+  pub value-Apply : (comp : ℕ) (op : Op) (args : List FlatExpr) → value (e.Apply comp op args) ≡ operate env.texts env.patterns (fails env t node_of B origin n comp) op (map value args)
+  value-Apply comp op args = ap (operate env.texts env.patterns (fails env t node_of B origin n comp) op) (values-row args)
 
   pub value-If : (args : List FlatExpr) → value (e.If args) ≡ chosen (map value args)
   value-If args = ap chosen (values-row args)

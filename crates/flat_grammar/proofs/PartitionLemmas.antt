@@ -30,7 +30,7 @@ module _ (symbols : List FlatSymbol) (rules : List FlatRule) (x : SymId) where
       go (inr (inl l)) = absurd (q.1 (IsPeeled-grows k (suc j) a (omega arith) p.0))
       go (inr (inr g)) = absurd (p.1 (IsPeeled-grows j (suc k) a (omega arith) q.0))
 
-  pub IsInClass-kind : (k : ℕ) (a : AttrId) → IsInClass symbols rules x k a → HasKind symbols rules x (kind_of_class k) a
+  pub IsInClass-kind : (k : ℕ) (a : AttrId) → IsInClass symbols rules x k a → HasKind symbols x (kind_of_class k) a
   IsInClass-kind k a (inl p, n) = absurd (n p)
   IsInClass-kind k a (inr (set, m, c), n) = (c a m).0
 

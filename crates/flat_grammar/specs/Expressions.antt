@@ -1,7 +1,7 @@
 -- What an expression reads by itself, and its size.
 use Rattle.std.specs.Prelude.{ℕ, suc, ◌+◌, List, [], ◌∷◌}
 use Rattle.flat_grammar.specs.declared.flat.Occ.{Occ}
-use Rattle.flat_grammar.specs.declared.flat.FlatExpr.{FlatExpr, Value, Terminal, Read, Apply', If', Order', Row_of-FlatExpr, end_of-FlatExpr, more_of-FlatExpr}
+use Rattle.flat_grammar.specs.declared.flat.FlatExpr.{FlatExpr, Value, Terminal, Read, Coord, Apply', If', Order', Row_of-FlatExpr, end_of-FlatExpr, more_of-FlatExpr}
 
 -- what it reads without its arguments
 abbrev pub own_reads : FlatExpr → List Occ
@@ -14,6 +14,7 @@ abbrev mutual
   weight (Value v) = 1
   weight (Terminal k) = 1
   weight (Read o) = 1
+  weight (Coord part) = 1
   weight (Apply' comp op shape args) = suc (weight_of_all args)
   weight (If' shape args) = suc (weight_of_all args)
   weight (Order' shape args) = suc (weight_of_all args)

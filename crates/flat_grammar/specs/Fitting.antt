@@ -12,35 +12,34 @@ use Rattle.flat_grammar.specs.declared.flat.FlatSymbol.{FlatSymbol}
 use Rattle.flat_grammar.specs.declared.flat.FlatRule.{FlatRule}
 use Rattle.flat_grammar.specs.declared.flat.FlatComp.{FlatComp}
 use Rattle.flat_grammar.specs.declared.flat.Shape.{Shape}
-use Rattle.flat_grammar.specs.declared.flat.FlatExpr.{FlatExpr, Value, Terminal, Read, Apply', If', Order', Row_of-FlatExpr, end_of-FlatExpr, more_of-FlatExpr}
+use Rattle.flat_grammar.specs.declared.flat.FlatExpr.{FlatExpr, Value, Terminal, Read, Coord, Apply', If', Order', Row_of-FlatExpr, end_of-FlatExpr, more_of-FlatExpr}
 use Rattle.flat_grammar.specs.Rules.{attrs_of, HasRule}
 
-module _ (symbols : List FlatSymbol) (rules : List FlatRule) (shapes : List Shape) (root : SymId) (t : Tree Plain) where
-  -- the node names the rule of this shape
-  abbrev pub HasShape : ℕ → Shape → Type 0
-  HasShape n shape = Contains shapes shape × (rule_at t n ≡ Some shape.rule.0)
+-- the node names the rule of this shape
+abbrev pub HasShape : {V : Type 0} → List Shape → Tree V → ℕ → Shape → Type 0
+HasShape shapes t n shape = Contains shapes shape × (rule_at t n ≡ Some shape.rule.0)
 
-  -- the symbol stands on the left side of the node's rule
-  abbrev pub HasSymbol : ℕ → SymId → Type 0
-  HasSymbol n s = (r : FlatRule) × HasRule rules t n r × (r.left ≡ s)
+-- the symbol stands on the left side of the node's rule
+abbrev pub HasSymbol : {V : Type 0} → List FlatRule → Tree V → ℕ → SymId → Type 0
+HasSymbol rules t n s = (r : FlatRule) × HasRule rules t n r × (r.left ≡ s)
 
-  -- the symbol is a terminal of this type
-  abbrev pub IsTerminal : SymId → ValueType → Type 0
-  IsTerminal s ty = (x : FlatSymbol) × (slice_get symbols s.0 ≡ Some x) × (x.terminal ≡ Some ty)
+-- the symbol is a terminal of this type
+abbrev pub IsTerminal : List FlatSymbol → SymId → ValueType → Type 0
+IsTerminal symbols s ty = (x : FlatSymbol) × (slice_get symbols s.0 ≡ Some x) × (x.terminal ≡ Some ty)
 
-  -- what may stand for the symbol: a node of it, a 64-bit number or a string
-  pub data IsItem (s : SymId) : Item Plain → Type 0 where
-    node : {c : ℕ} → HasSymbol c s → IsItem s (Child c)
-    int : {z : ℤ} → IsTerminal s type.Int → negsuc (2 ^ 63 - 1) ≤ℤ z → z <ℤ pos (2 ^ 63) → IsItem s (Leaf (Int z))
-    string : {bytes : List ℕ} → IsTerminal s type.Str → IsItem s (Leaf (Str bytes))
+-- what may stand for the symbol: a node of it, a 64-bit number or a string
+pub data IsItem (symbols : List FlatSymbol) (rules : List FlatRule) (t : Tree Plain) (s : SymId) : Item Plain → Type 0 where
+  node : {c : ℕ} → HasSymbol rules t c s → IsItem symbols rules t s (Child c)
+  int : {z : ℤ} → IsTerminal symbols s type.Int → negsuc (2 ^ 63 - 1) ≤ℤ z → z <ℤ pos (2 ^ 63) → IsItem symbols rules t s (Leaf (Int z))
+  string : {bytes : List ℕ} → IsTerminal symbols s type.Str → IsItem symbols rules t s (Leaf (Str bytes))
 
-  -- node 0 has the root symbol, and each node's children are those that its rule allows: for a list any number of elements
-  pub record IsFitting : Type 0 where
-    pub tree : IsTree t
-    pub root_node : HasSymbol 0 root
-    pub shaped : (n : ℕ) → n < length t → (shape : Shape) × HasShape n shape
-    pub plain : (n : ℕ) (shape : Shape) → HasShape n shape → shape.list ≡ false → AllZip IsItem shape.right (items_of t n)
-    pub lists : (n : ℕ) (shape : Shape) → HasShape n shape → shape.list ≡ true → All (λ p. (s : SymId) × Contains shape.right s × IsItem s p) (items_of t n)
+-- node 0 has the root symbol, and each node's children are those that its rule allows: for a list any number of elements
+pub record IsFitting (symbols : List FlatSymbol) (rules : List FlatRule) (shapes : List Shape) (root : SymId) (t : Tree Plain) : Type 0 where
+  pub tree : IsTree t
+  pub root_node : HasSymbol rules t 0 root
+  pub shaped : (n : ℕ) → n < length t → (shape : Shape) × HasShape shapes t n shape
+  pub plain : (n : ℕ) (shape : Shape) → HasShape shapes t n shape → shape.list ≡ false → AllZip (IsItem symbols rules t) shape.right (items_of t n)
+  pub lists : (n : ℕ) (shape : Shape) → HasShape shapes t n shape → shape.list ≡ true → All (λ p. (s : SymId) × Contains shape.right s × IsItem symbols rules t s p) (items_of t n)
 
 -- The text operations of an expression count one cell each, and one for each argument.
 abbrev pub own_cells : Op → ℕ → ℕ
@@ -56,6 +55,7 @@ abbrev mutual
   cells (Value v) = 0
   cells (Terminal k) = 0
   cells (Read o) = 0
+  cells (Coord part) = 0
   cells (Apply' comp op shape args) = own_cells op (width args) + cells_of_all args
   cells (If' shape args) = cells_of_all args
   cells (Order' shape args) = cells_of_all args

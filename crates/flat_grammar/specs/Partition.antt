@@ -20,14 +20,14 @@ kind_of_class zero = Synthesized
 kind_of_class (suc zero) = Inherited
 kind_of_class (suc (suc k)) = kind_of_class k
 
-module _ (symbols : List FlatSymbol) (rules : List FlatRule) (x : SymId) where
-  -- the symbol has the attribute, and it is of this kind
-  abbrev pub HasKind : Kind → AttrId → Type 0
-  HasKind kind a = (attr : FlatAttr) × (attribute_at symbols x a ≡ Some attr) × (attr.kind ≡ kind)
+-- the symbol has the attribute, and it is of this kind
+abbrev pub HasKind : List FlatSymbol → SymId → Kind → AttrId → Type 0
+HasKind symbols x kind a = (attr : FlatAttr) × (attribute_at symbols x a ≡ Some attr) × (attr.kind ≡ kind)
 
+module _ (symbols : List FlatSymbol) (rules : List FlatRule) (x : SymId) where
   -- a set of attributes of one kind, all of whose induced successors are peeled or in the set
   abbrev pub IsClosedSet : (AttrId → Type 0) → Kind → List AttrId → Type 0
-  IsClosedSet Peeled kind set = (a : AttrId) → Contains set a → HasKind kind a × ((b : AttrId) → IDS rules x a b → Peeled b ⊎ Contains set b)
+  IsClosedSet Peeled kind set = (a : AttrId) → Contains set a → HasKind symbols x kind a × ((b : AttrId) → IDS rules x a b → Peeled b ⊎ Contains set b)
 
   -- The attribute is in one of the first so many classes that are peeled. Each is the greatest such set of its kind: an attribute
   -- is in it where some such set holds it.

@@ -8,7 +8,7 @@ use Rattle.flat_grammar.specs.declared.flat.FlatSymbol.{FlatSymbol}
 use Rattle.flat_grammar.specs.declared.flat.FlatAttr.{FlatAttr}
 use Rattle.flat_grammar.specs.declared.flat.FlatRule.{FlatRule}
 use Rattle.flat_grammar.specs.declared.flat.FlatComp.{FlatComp}
-use Rattle.flat_grammar.specs.declared.flat.FlatExpr.{FlatExpr, Value, Terminal, Read, Apply', If', Order', Row_of-FlatExpr, end_of-FlatExpr, more_of-FlatExpr}
+use Rattle.flat_grammar.specs.declared.flat.FlatExpr.{FlatExpr, Value, Terminal, Read, Coord, Apply', If', Order', Row_of-FlatExpr, end_of-FlatExpr, more_of-FlatExpr}
 
 -- the left side is occurrence 0, and the right side's symbols follow
 abbrev pub symbols_of : FlatRule → List SymId
@@ -32,6 +32,7 @@ abbrev mutual
   reads (Value v) = []
   reads (Terminal k) = []
   reads (Read o) = o ∷ []
+  reads (Coord part) = []
   reads (Apply' comp op shape args) = reads_of_all args
   reads (If' shape args) = reads_of_all args
   reads (Order' shape args) = reads_of_all args
@@ -46,6 +47,7 @@ abbrev mutual
   terminals_of (Value v) = []
   terminals_of (Terminal k) = k ∷ []
   terminals_of (Read o) = []
+  terminals_of (Coord part) = []
   terminals_of (Apply' comp op shape args) = terminals_of_all args
   terminals_of (If' shape args) = terminals_of_all args
   terminals_of (Order' shape args) = terminals_of_all args

@@ -1,5 +1,5 @@
 -- A sound plan: what visit sequences may do, in numbered clauses, and the first fault. After Kastens' visit sequences (1980).
-use Rattle.std.specs.Prelude.{◌≡◌, ℕ, zero, suc, ◌+◌, ◌<◌, ◌≤◌, ◌⊎◌, List, [], ◌∷◌, ◌++◌, map, length, take, Bool, true, false, IsTrue, Option, Some, None, slice_get, Contains, All, AllPairs, count_by, nat_eq, flat_map, is_some, ◌↔◌}
+use Rattle.std.specs.Prelude.{◌≡◌, ℕ, zero, suc, ◌+◌, ◌<◌, ◌≤◌, ◌⊎◌, List, [], ◌∷◌, ◌++◌, map, length, take, Bool, true, false, IsTrue, Option, Some, None, slice_get, Contains, All, AllPairs, count_by, nat_eq, flat_map, is_some, ◌↔◌, option_and_then}
 use Rattle.std.specs.List.{AllZip}
 use Rattle.lido_base.specs.declared.kinds.Kind.{Kind}
 use Rattle.lido_base.specs.declared.kinds.Kind.TheVariants.{Synthesized, Inherited}
@@ -45,6 +45,10 @@ visits_made before child = count_by (is_visit_of child) before
 -- the goals of a rule's computations
 abbrev pub goals_of : FlatRule → List Occ
 goals_of r = map (λ (c : FlatComp). c.goal) r.comps
+
+-- the visits of the symbol at an occurrence of a rule
+abbrev pub row_of : List (List VisitClass) → FlatRule → ℕ → Option (List VisitClass)
+row_of visits r k = option_and_then (λ (s : SymId). slice_get visits s.0) (symbol_at r k)
 
 module _ (visits : List (List VisitClass)) (r : FlatRule) where
   -- the class of that visit, counted from 1, of the symbol at an occurrence

@@ -77,7 +77,7 @@ positions_from p k (r ∷ more) = if p r then k ∷ positions_from p (suc k) mor
 abbrev pub positions_of : (FlatRule → Bool) → List FlatRule → List ℕ
 positions_of p rules = positions_from p 0 rules
 
-module _ (symbols : List FlatSymbol) (rules : List FlatRule) where
+module _ (rules : List FlatRule) where
   -- the right sides of a symbol's rules, in order
   abbrev pub right_sides : SymId → List (List SymId)
   right_sides s = map (λ r. r.right) (filter (λ r. is_same_symbol r.left s) rules)
@@ -90,12 +90,13 @@ module _ (symbols : List FlatSymbol) (rules : List FlatRule) where
   abbrev pub cell_of : Shape → SymId
   cell_of shape = slice_index_or (right_side shape) 0 (record { 0 = 0 })
 
+module _ (symbols : List FlatSymbol) (rules : List FlatRule) where
   -- The list's rule is the only one but the cell's own that has the cell, and has nothing else on its right side. The cell has
   -- one rule for each different symbol of the list, a nonterminal other than the cell, and the end rule.
   pub record IsListShape (shape : Shape) (cell : SymId) : Type 0 where
-    pub leads : right_side shape ≡ cell ∷ []
+    pub leads : right_side rules shape ≡ cell ∷ []
     pub elements : All (λ s. IsTrue (is_nonterminal symbols s && not (is_same_symbol s cell))) shape.right
-    pub cells : right_sides cell ≡ map (λ s. s ∷ cell ∷ []) (different shape.right) ++ [] ∷ []
+    pub cells : right_sides rules cell ≡ map (λ s. s ∷ cell ∷ []) (different shape.right) ++ [] ∷ []
     pub used_once : positions_of (λ r. list_any (is_same_symbol cell) r.right && not (is_same_symbol r.left cell)) rules ≡ shape.rule.0 ∷ []
 
 -- A flat grammar is well formed. Its computations stay in their rules, its lists are chains of cells, names differ, and
@@ -107,11 +108,11 @@ pub record IsWellFormed (symbols : List FlatSymbol) (rules : List FlatRule) (sha
   pub attribute_names : All (λ x. AllPairs (λ a b. a.name ≡ b.name → ⊥) x.attrs) symbols
   pub rule_names : AllPairs (λ r q. r.name ≡ q.name → ⊥) rules
   pub each_rule : All (IsRule symbols) rules
-  pub each_list : All (λ shape. IsTrue shape.list → IsListShape symbols rules shape (cell_of symbols rules shape)) shapes
-  pub each_plain : All (λ shape. shape.list ≡ false → shape.right ≡ right_side symbols rules shape) shapes
-  pub each_shape : map (λ shape. shape.rule.0) shapes ≡ positions_of (λ r. not (list_any (λ shape. shape.list && is_same_symbol r.left (cell_of symbols rules shape)) shapes)) rules
+  pub each_list : All (λ shape. IsTrue shape.list → IsListShape symbols rules shape (cell_of rules shape)) shapes
+  pub each_plain : All (λ shape. shape.list ≡ false → shape.right ≡ right_side rules shape) shapes
+  pub each_shape : map (λ shape. shape.rule.0) shapes ≡ positions_of (λ r. not (list_any (λ shape. shape.list && is_same_symbol r.left (cell_of rules shape)) shapes)) rules
   pub numbered_symbols : length symbols ≤ 2 ^ 16
   pub numbered_rules : length rules ≤ 2 ^ 16
   pub numbered_occurrences : All (λ r. length r.right < 2 ^ 16) rules
-  pub few_attributes : All (λ x. length x.attrs ≤ 128) symbols
+  pub few_attributes : All (λ x. length x.attrs ≤ 256) symbols
   pub few_occurrences : All (λ r. sum_by (λ s. length (attrs_of symbols s)) (symbols_of r) ≤ 1024) rules

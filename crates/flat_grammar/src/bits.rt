@@ -54,9 +54,15 @@ impl Bits {
         ensures { (j : ℕ) → IsBitSet result j ↔ ((j ≡ k) ⊎ IsBitSet self j) }
     {
         if k < 128 {
-            Bits { low: words::with(self.low, k), high: self.high }
+            Bits {
+                low: words::with(self.low, k),
+                high: self.high,
+            }
         } else {
-            Bits { low: self.low, high: words::with(self.high, k - 128) }
+            Bits {
+                low: self.low,
+                high: words::with(self.high, k - 128),
+            }
         }
     }
 
@@ -65,14 +71,20 @@ impl Bits {
         ensures members { (j : ℕ) → IsBitSet result j ↔ (IsBitSet self j ⊎ IsBitSet other j) }
         ensures grows { self ≤ result }
     {
-        Bits { low: words::union(self.low, other.low), high: words::union(self.high, other.high) }
+        Bits {
+            low: words::union(self.low, other.low),
+            high: words::union(self.high, other.high),
+        }
     }
 
     /// What is in the set and not in the other one.
     pub fn without(self, other: Bits) -> Bits
         ensures { (j : ℕ) → IsBitSet result j ↔ (IsBitSet self j × (IsBitSet other j → ⊥)) }
     {
-        Bits { low: words::without(self.low, other.low), high: words::without(self.high, other.high) }
+        Bits {
+            low: words::without(self.low, other.low),
+            high: words::without(self.high, other.high),
+        }
     }
 
     /// Whether the other set has all that the set has.

@@ -1,10 +1,10 @@
 //! Laws of the definitions: functions that do nothing, whose contracts are the laws.
 ghost use Rattle.std.specs.Prelude.{◌≡◌, ◌<◌, ◌≤◌, ◌+◌, ◌-◌, ℕ, Bool, IsTrue, List, length, map, flat_map, sum_by, slice_get, Contains};
+ghost use Rattle.lido_base.specs.Environment.{Environment};
 ghost use Rattle.lido_base.specs.Operations.{operate, unless_bad, chosen, last};
 ghost use Rattle.lido_base.specs.Plain.{Plain};
 ghost use Rattle.lido_base.specs.Tree.{Tree, IsTree};
 ghost use Rattle.lido_base.specs.declared.operation.Op.{Op as Operation};
-ghost use Rattle.lido_base.specs.declared.pattern.Pattern.{Pattern};
 ghost use Rattle.lido_base.specs.declared.ids.SymId.{SymId as Symbol};
 ghost use Rattle.lido_base.specs.declared.ids.AttrId.{AttrId as Attribute};
 ghost use Rattle.flat_grammar.specs.declared.flat.Occ.{Occ as Occurrence};
@@ -24,7 +24,7 @@ ghost use Rattle.flat_grammar.specs.Dependencies.{IDS, IsClosed};
 ghost use Rattle.flat_grammar.specs.Partition.{kind_of_class, HasKind, IsPeeled, IsInClass, IsClass, AreVisits};
 ghost use Rattle.flat_grammar.specs.Cycles.{EDP};
 ghost use Rattle.flat_grammar.specs.SoundPlan.{goals_of, IsSoundSequence, IsSound, IsUnsound};
-ghost use Rattle.flat_grammar.specs.WholeOrder.{segment, sequence_at, item_order, order};
+ghost use Rattle.flat_grammar.specs.WholeOrder.{Instance, segment, sequence_at, item_order, order};
 
 /// The induced dependencies are the least: any two relations that feed each other as they do hold them.
 pub fn induced_dependencies_are_least()
@@ -54,7 +54,7 @@ pub fn classes_are_disjoint()
 /// A class has attributes of its kind alone.
 pub fn classes_have_one_kind()
     ensures { (symbols : List FlatSymbol) (rules : List FlatRule) (x : Symbol) (k : ℕ) (a : Attribute)
-        → IsInClass symbols rules x k a → HasKind symbols rules x (kind_of_class k) a }
+        → IsInClass symbols rules x k a → HasKind symbols x (kind_of_class k) a }
 {}
 
 /// A class has one ascending list.
@@ -143,12 +143,12 @@ pub fn text_cells_go_down_the_arguments()
 
 /// The value of a call, an IF or an ORDER is made of the values of its arguments.
 pub fn values_go_down_the_arguments()
-    ensures call { (texts : List (List ℕ)) (patterns : List Pattern) (t : Tree Plain) (node_of : List ℕ) (B : ℕ → ℕ → Plain) (origin n : ℕ) (comp : ℕ) (op : Operation) (args : List Expression)
-        → value_of texts patterns t node_of B origin n (expr.Apply comp op args)
-        ≡ operate texts patterns (fails texts patterns t node_of B origin n comp) op (map (value_of texts patterns t node_of B origin n) args) }
-    ensures choice { (texts : List (List ℕ)) (patterns : List Pattern) (t : Tree Plain) (node_of : List ℕ) (B : ℕ → ℕ → Plain) (origin n : ℕ) (args : List Expression)
-        → value_of texts patterns t node_of B origin n (expr.If args) ≡ chosen (map (value_of texts patterns t node_of B origin n) args) }
-    ensures order { (texts : List (List ℕ)) (patterns : List Pattern) (t : Tree Plain) (node_of : List ℕ) (B : ℕ → ℕ → Plain) (origin n : ℕ) (args : List Expression)
-        → (let values = map (value_of texts patterns t node_of B origin n) args in
-        value_of texts patterns t node_of B origin n (expr.Order args) ≡ unless_bad values (last values)) }
+    ensures call { (env : Environment) (t : Tree Plain) (node_of : List ℕ) (B : Instance → Plain) (origin n : ℕ) (comp : ℕ) (op : Operation) (args : List Expression)
+        → value_of env t node_of B origin n (expr.Apply comp op args)
+        ≡ operate env.texts env.patterns (fails env t node_of B origin n comp) op (map (value_of env t node_of B origin n) args) }
+    ensures choice { (env : Environment) (t : Tree Plain) (node_of : List ℕ) (B : Instance → Plain) (origin n : ℕ) (args : List Expression)
+        → value_of env t node_of B origin n (expr.If args) ≡ chosen (map (value_of env t node_of B origin n) args) }
+    ensures order { (env : Environment) (t : Tree Plain) (node_of : List ℕ) (B : Instance → Plain) (origin n : ℕ) (args : List Expression)
+        → (let values = map (value_of env t node_of B origin n) args in
+        value_of env t node_of B origin n (expr.Order args) ≡ unless_bad values (last values)) }
 {}

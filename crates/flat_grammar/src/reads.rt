@@ -14,7 +14,7 @@ pub fn arguments(value: &FlatExpr) -> &[FlatExpr]
     ensures lighter { weight value.now ≡ suc (sum_by weight result.now) }
 {
     match value {
-        FlatExpr::Value(_) | FlatExpr::Terminal(_) | FlatExpr::Read(_) => &[],
+        FlatExpr::Value(_) | FlatExpr::Terminal(_) | FlatExpr::Read(_) | FlatExpr::Coord(_) => &[],
         FlatExpr::Apply { args, .. } => args.as_slice(),
         FlatExpr::If(args) => args.as_slice(),
         FlatExpr::Order(args) => args.as_slice(),

@@ -1,5 +1,5 @@
 -- The reads and the size of an expression go down its arguments, one call at a time.
-use Rattle.std.specs.Prelude.{List, ◌∷◌, ℕ, ◌+◌, ◌<◌, ◌≡◌, ◌↔◌, ◌⊎◌, refl, sum_by, suc, flat_map, ◌++◌, [], Contains}
+use Rattle.std.specs.Prelude.{List, ◌∷◌, ℕ, ◌+◌, ◌<◌, ◌≡◌, ◌↔◌, refl, sum_by, suc, flat_map, ◌++◌, [], Contains}
 use Rattle.std.proofs.Common.{ap, sym, ◌∙◌, arith, subst, inl, inr}
 use Rattle.std.proofs.lemmas.List.{append-nil, append_assoc}
 use Rattle.std.proofs.lemmas.List.Concat.{flat_map-cons}

@@ -1,8 +1,8 @@
 -- Sets of numbers as the bits of words, and as those of two words: union, inclusion, order, the least number.
-use Rattle.std.specs.Prelude.{IsBitSet, nat_eq, bit_or, bit_and, min, max, ◌^◌, ◌*◌, ◌-◌, IsTrue, true, ◌≢◌}
+use Rattle.std.specs.Prelude.{IsBitSet, bit_or, bit_and, min, max, ◌^◌, ◌*◌, ◌-◌}
 use Rattle.std.specs.Int.{bit_at, trailing_zeros, w128}
-use Rattle.std.proofs.Common.{◌≡◌, ℕ, zero, suc, ◌+◌, ◌<◌, ◌≤◌, ◌⊎◌, inl, inr, refl, sym, ap, subst, ◌∙◌, arith, eq-eqb, ◌↔◌}
-use Rattle.std.proofs.lemmas.Bool.{eqb-true, cases_lt}
+use Rattle.std.proofs.Common.{◌≡◌, ℕ, zero, suc, ◌+◌, ◌<◌, ◌≤◌, ◌⊎◌, inl, inr, refl, sym, ap, subst, ◌∙◌, arith, ◌↔◌}
+use Rattle.std.proofs.lemmas.Bool.{cases_lt}
 use lib.Pow.{pow_pos}
 use Rattle.std.proofs.lemmas.Nat.{le_or_l, and_le_l}
 use Rattle.std.proofs.lemmas.Nat.Bits.{bit_at_or, bit_at-lt, bit_at_above, and_pow, same_from_bits, bit_at_cat_low, bit_at_cat_high, bit_at_and, bit_at_not, bit_at-trailing_zeros}

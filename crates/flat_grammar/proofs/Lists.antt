@@ -1,9 +1,10 @@
 -- Lists by places and by elements.
 use Rattle.std.specs.Prelude.{Contains, AllPairs, slice_get}
 use Rattle.std.specs.List.{AllZip, slice_index_or}
-use Rattle.std.proofs.Common.{◌≡◌, ℕ, zero, suc, ◌<◌, ◌⊎◌, inl, inr, List, [], ◌∷◌, map, take, Some, refl, arith, ap, sym, subst, ◌∙◌, unwrap_or, drop, ◌++◌, length-append, ◌+◌, length}
-use Rattle.std.proofs.lemmas.List.Elements.{Contains-append_right}
-use Rattle.std.proofs.lemmas.Option.{none-some}
+use Rattle.std.proofs.Common.{◌≡◌, ℕ, zero, suc, ◌<◌, ◌⊎◌, inl, inr, List, [], ◌∷◌, map, take, Some, refl, arith, ap, sym, subst, ◌∙◌, unwrap_or, drop, ◌++◌, length-append, ◌+◌, length, add-one}
+use Rattle.std.proofs.Math.Seq.{take-suc}
+use Rattle.std.proofs.lemmas.List.Elements.{Contains-append_left, Contains-append_right, Contains-append_cases}
+use Rattle.std.proofs.lemmas.Option.{none-some, slice_get-get_or}
 use Rattle.std.specs.List.Sorted.{IsStrictlyIncreasing}
 use Rattle.std.proofs.lemmas.List.{length-map}
 use Rattle.std.proofs.lemmas.List.Kept.{AllPairs-from_increasing}
@@ -119,3 +120,23 @@ last-in-end (a ∷ xs) y ys [] x e =
     let f : length (xs ++ (y ∷ ys)) ≡ 0 = ap (λ l. length (drop 1 l)) e in
     let g : length (xs ++ (y ∷ ys)) ≡ length xs + length (y ∷ ys) = length-append xs (y ∷ ys) in absurd (omega (arith, f, g))
 last-in-end (a ∷ xs) y ys (b ∷ front) x e = last-in-end xs y ys front x (ap (λ l. drop 1 l) e)
+
+-- ---- the first elements, one more each time
+
+next_take : {X : Type 0} (xs : List X) (k : ℕ) (d : X) → k < length xs → take (k + 1) xs ≡ take k xs ++ slice_index_or xs k d ∷ []
+next_take xs k d within = rw add-one (take-suc xs k d within)
+
+pub take_less : {X : Type 0} (xs : List X) (k : ℕ) (d x : X) → k < length xs → Contains (take k xs) x → Contains (take (k + 1) xs) x
+take_less xs k d x within h = subst (λ ys. Contains ys x) (sym (next_take xs k d within)) (Contains-append_left (take k xs) (slice_index_or xs k d ∷ []) x h)
+
+pub take_here : {X : Type 0} (xs : List X) (k : ℕ) (d : X) → k < length xs → Contains (take (k + 1) xs) (slice_index_or xs k d)
+take_here xs k d within = subst (λ ys. Contains ys (slice_index_or xs k d)) (sym (next_take xs k d within)) (Contains-append_right (take k xs) (slice_index_or xs k d ∷ []) (slice_index_or xs k d) (contains-first (slice_index_or xs k d) []))
+
+pub take_cases : {X : Type 0} (xs : List X) (k : ℕ) (d x : X) → k < length xs → Contains (take (k + 1) xs) x → Contains (take k xs) x ⊎ (slice_index_or xs k d ≡ x)
+take_cases xs k d x within h = elim (Contains-append_cases (take k xs) (slice_index_or xs k d ∷ []) x (subst (λ ys. Contains ys x) (next_take xs k d within) h)) [
+  | inl earlier ↦ inl earlier
+  | inr last ↦ elim (contains-cons (slice_index_or xs k d) x [] last) [ inl same ↦ inr same | inr none ↦ absurd (contains-nil x none) ]
+]
+
+pub contains_at : {X : Type 0} (xs : List X) (k : ℕ) (d : X) → k < length xs → Contains xs (slice_index_or xs k d)
+contains_at xs k d within = contains-slice_get xs k (slice_index_or xs k d) (slice_get-get_or xs k d within)

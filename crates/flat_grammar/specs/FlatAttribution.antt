@@ -1,5 +1,5 @@
 -- The attributions of a flat tree: the solutions of all its attribute equations.
-use Rattle.std.specs.Prelude.{◌≡◌, ℕ, ◌↔◌, true, pos, List, [], ◌∷◌, length, Option, Some, None, IsSome, slice_get, unwrap_or, Contains}
+use Rattle.std.specs.Prelude.{◌≡◌, ℕ, ◌↔◌, true, pos, List, [], ◌∷◌, Option, Some, None, IsSome, slice_get, unwrap_or, Contains}
 use Rattle.lido_base.specs.declared.value.BadKind.{BadKind}
 use Rattle.lido_base.specs.declared.value.Origin.{Origin}
 use Rattle.lido_base.specs.Environment.{Environment}

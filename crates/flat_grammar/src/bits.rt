@@ -1,8 +1,11 @@
 //! Sets of attributes of one symbol.
-ghost use Rattle.std.specs.Prelude.{◌≡◌, ◌<◌, ◌≤◌, ◌↔◌, ◌⊎◌, ℕ, IsTrue, IsBitSet, MatchOption};
+ghost use Rattle.std.specs.Prelude.{◌≡◌, ◌<◌, ◌≤◌, ◌↔◌, ◌⊎◌, ℕ, IsTrue, IsBitSet, MatchOption, IfOk, All, Contains, map};
+ghost use Rattle.std.specs.List.Sorted.{IsStrictlyIncreasing};
+ghost use Rattle.lido_base.specs.declared.ids.AttrId.{AttrId as Attribute};
 
 use crate::words;
 use lido_base::AttrId;
+use std::alloc::{AllocError, Global};
 use std::marker::Model;
 
 /// A set of attributes, whose numbers are below 256. Contracts see it as one number, `low + 2^128 * high`.
@@ -105,5 +108,31 @@ impl Bits {
             Some(k) => Some(AttrId(128 + k as u16)),
             None => None,
         }
+    }
+
+    /// The attributes of the list.
+    pub fn of(attrs: &[AttrId]) -> Bits
+        requires { All (λ a. a.0 < 256) attrs.now }
+        ensures { (a : Attribute) → IsBitSet result a.0 ↔ Contains attrs.now a }
+    {
+        let mut set = Bits::empty();
+        for attr in attrs {
+            set = set.with(attr.0 as usize);
+        }
+        set
+    }
+
+    /// The attributes of the set, by ascending numbers.
+    pub fn attrs(self, alloc: Global) -> Result<Vec<AttrId>, AllocError>
+        ensures same { IfOk result (λ list. (a : Attribute) → Contains list.items a ↔ IsBitSet self a.0) }
+        ensures ascending { IfOk result (λ list. IsStrictlyIncreasing (map (λ (a : Attribute). a.0) list.items)) }
+    {
+        let mut list = Vec::new(alloc);
+        let mut rest = self;
+        while let Some(attr) = rest.first() {
+            list.push(attr)?;
+            rest = rest.without(Bits::empty().with(attr.0 as usize));
+        }
+        Ok(list)
     }
 }

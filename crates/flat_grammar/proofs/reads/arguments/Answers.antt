@@ -1,4 +1,4 @@
-use Rattle.std.proofs.Common.{◌∙◌, ap, sym, suc, flat_map, sum_by, refl}
+use Rattle.std.proofs.Common.{◌∙◌, ap, sym, suc, sum_by}
 use Rattle.flat_grammar.specs.Rules.{reads}
 use Rattle.flat_grammar.proofs.ExpressionsLemmas.{reads-Apply, reads-If, reads-Order}
 use Rattle.flat_grammar.specs.Expressions.{weight, own_reads}

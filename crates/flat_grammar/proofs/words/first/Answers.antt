@@ -1,5 +1,5 @@
 use Rattle.std.proofs.Common.{arith}
-use Rattle.flat_grammar.proofs.BitsLemmas.{first_bit, empty-set}
+use Rattle.flat_grammar.proofs.BitsLemmas.{first_bit}
 use Rattle.flat_grammar.proofs.words.first.Goals as goal
 
 pub returns : goal.returns

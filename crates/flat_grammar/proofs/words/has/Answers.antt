@@ -1,4 +1,4 @@
-use Rattle.std.proofs.Common.{◌≡◌, ◌≤◌, ◌<◌, suc, arith, leb-true}
+use Rattle.std.proofs.Common.{◌<◌, suc, arith, leb-true}
 use Rattle.flat_grammar.proofs.BitsLemmas.{not-above}
 use Rattle.flat_grammar.proofs.words.has.Goals as goal
 

@@ -1,4 +1,3 @@
-use Rattle.std.proofs.Common.{leb-true, suc, ◌<◌}
 use Rattle.flat_grammar.proofs.BitsLemmas.{iff_then, low_bits, high_bits}
 use Rattle.flat_grammar.proofs.bits.Bits.has.Goals as goal
 

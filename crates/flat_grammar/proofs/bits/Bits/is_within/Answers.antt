@@ -1,4 +1,4 @@
-use Rattle.std.proofs.Common.{true, false, ◌≡◌}
+use Rattle.std.proofs.Common.{true, ◌≡◌}
 use Rattle.flat_grammar.proofs.BitsLemmas.{within_halves, low_within, high_within}
 use Rattle.flat_grammar.proofs.bits.Bits.is_within.Goals as goal
 

@@ -1,4 +1,5 @@
 pub mod Pieces
+pub mod PlainLemmas
 pub mod TextsLemmas
 pub mod TreeLemmas
 pub mod EquationsLemmas

@@ -1,11 +1,14 @@
 //! Laws of the definitions. Each function does nothing; what is proved is its contract.
-ghost use Rattle.std.specs.Prelude.{◌≡◌, ◌<◌, ◌≤◌, ◌+◌, ◌⊎◌, ◌↔◌, [], ◌∷◌, Bool, Contains, IsTrue, List, ℕ, Some, None, length, slice_get};
+ghost use Rattle.std.specs.Prelude.{◌≡◌, ◌<◌, ◌≤◌, ◌+◌, ◌⊎◌, ◌↔◌, [], ◌∷◌, Bool, Contains, IsTrue, List, ℕ, Some, None, length, map, slice_get};
 ghost use Rattle.lido_base.specs.Equations.{IsOrdered, HasOneSolution};
 ghost use Rattle.lido_base.specs.Origins.{IsAtMost};
 ghost use Rattle.lido_base.specs.Reach.{Reaches, IsClosed, IsWithin, IsDecided, IsPath, IsLeastPath};
 ghost use Rattle.lido_base.specs.Texts.{IsDistinctTexts, with_text};
-ghost use Rattle.lido_base.specs.Tree.{Tree, IsTree, AsksBelow, ancestors, children, from_children, parent_of};
+ghost use Rattle.lido_base.specs.Plain.{plain_item, plain_tree};
+ghost use Rattle.lido_base.specs.Tree.{Tree, IsTree, AsksBelow, ancestors, children, coordinate, from_children, items_of, parent_of, place_of, rule_at};
+ghost use Rattle.lido_base.specs.declared.kinds.CoordPart.{CoordPart};
 ghost use Rattle.lido_base.specs.declared.value.Origin.{Origin};
+ghost use Rattle.lido_base.specs.declared.value.Value.{Value};
 
 /// In a table of distinct texts, equal texts have equal ids, and one id has one text.
 pub fn equal_texts_have_equal_ids()
@@ -58,6 +61,22 @@ pub fn ancestors_step_by_step<V>()
     ensures root { (t : Tree V) (n : ℕ) → parent_of t n ≡ None → ancestors t n ≡ [] }
     ensures child { (t : Tree V) (n p : ℕ) → IsTree t → parent_of t n ≡ Some p
         → ancestors t n ≡ p ∷ ancestors t p }
+{}
+
+/// Where its terminals are made plain, a tree keeps all else: rules, parents, places, coordinates, children and ancestors. It is
+/// a tree then exactly where it was one.
+pub fn plain_trees_keep_all_but_terminals()
+    ensures count { (texts : List (List ℕ)) (t : Tree Value) → length (plain_tree texts t) ≡ length t }
+    ensures rules { (texts : List (List ℕ)) (t : Tree Value) (n : ℕ) → rule_at (plain_tree texts t) n ≡ rule_at t n }
+    ensures parents { (texts : List (List ℕ)) (t : Tree Value) (n : ℕ) → parent_of (plain_tree texts t) n ≡ parent_of t n }
+    ensures places { (texts : List (List ℕ)) (t : Tree Value) (n : ℕ) → place_of (plain_tree texts t) n ≡ place_of t n }
+    ensures coordinates { (texts : List (List ℕ)) (t : Tree Value) (n : ℕ) (part : CoordPart)
+        → coordinate (plain_tree texts t) n part ≡ coordinate t n part }
+    ensures items { (texts : List (List ℕ)) (t : Tree Value) (n : ℕ)
+        → items_of (plain_tree texts t) n ≡ map (plain_item texts) (items_of t n) }
+    ensures children { (texts : List (List ℕ)) (t : Tree Value) (n : ℕ) → children (plain_tree texts t) n ≡ children t n }
+    ensures ancestors { (texts : List (List ℕ)) (t : Tree Value) (n : ℕ) → ancestors (plain_tree texts t) n ≡ ancestors t n }
+    ensures tree { (texts : List (List ℕ)) (t : Tree Value) → IsTree (plain_tree texts t) ↔ IsTree t }
 {}
 
 /// Over a tree, a step that asks at a node's children alone has exactly one function.

@@ -16,7 +16,7 @@ use Rattle.flat_grammar.specs.WellFormed.{cell_of}
 use Rattle.flat_grammar.specs.FlatTrees.{StandsFor, IsFlatTree}
 use Rattle.tree_store.proofs.GrowthLemmas.{get_before, get_last}
 use Rattle.tree_store.proofs.OpenLemmas.{open_upwards}
-use Rattle.tree_flattener.specs.Drafts.{Table, IsOnPath, Suits, IsUpToAs, IsWholeAs, IsUpTo, IsWhole, IsNumbered, IsDraft, IsAttached, IsClosed}
+use Rattle.tree_flattener.specs.Drafts.{Table, IsPlaced, IsOnPath, Suits, IsUpToAs, IsWholeAs, IsUpTo, IsWhole, IsNumbered, IsDraft, IsAttached, IsClosed}
 use Rattle.tree_flattener.proofs.PathLemmas.{above_self, parent_above, above_parent, above_before, path_up, before_up, behind_up, child_parent, on_path_before, place_inside}
 use Rattle.tree_flattener.proofs.GrowLemmas.{stands_grows, stands_before, up_to_grows, whole_grows, some_same}
 use Rattle.tree_flattener.proofs.ItemLemmas.{there}
@@ -214,14 +214,16 @@ module _ (symbols : List FlatSymbol) (rules : List FlatRule) (shapes : List Shap
                 go (inr far) = inr far
 
     -- once all is closed, it is the flat tree
-    pub is_flat_tree : m ≡ 0 → v ≡ length W → IsFlatTree symbols rules shapes W G more
-    is_flat_tree at_root all = record {
+    pub is_flat_tree : IsPlaced W G more → m ≡ 0 → v ≡ length W → IsFlatTree symbols rules shapes W G more
+    is_flat_tree placed at_root all = record {
       tree = a.tree;
       each_node = a.each_node;
       same_root = (closed_numbered.known 0 0 d.numbered.root).0;
       in_order = λ k l w x s t less. order k l w x (closed_numbered.only k w s) (closed_numbered.only l x t) less (cases_lt w x);
       all_written = λ w h. let f = there flat_of w (omega (arith, d.count)) in (f.0, (closed_numbered.known w f.0 f.1).0);
       same_rules = λ k w s. (closed_numbered.known w k (closed_numbered.only k w s)).1;
+      same_lines = placed.lines;
+      same_columns = placed.columns;
       plain_nodes = λ k w shape among s is plain. subst (λ b. IsWholeAs symbols rules shapes W G more b (cell_of symbols rules shape) w k) plain (whole k w shape among s is);
       list_nodes = λ k w shape among s is list. subst (λ b. IsWholeAs symbols rules shapes W G more b (cell_of symbols rules shape) w k) list (whole k w shape among s is);
     }

@@ -8,6 +8,7 @@ use Rattle.std.proofs.lemmas.Slice.Zip.{AllZip-long}
 use Rattle.lido_base.specs.declared.ids.SymId.{SymId}
 use Rattle.lido_base.specs.declared.value.Value.{Value}
 use Rattle.lido_base.specs.declared.value.ValueType.{ValueType}
+use Rattle.lido_base.proofs.PlainLemmas.{plain_rule, plain_items, plain_length, stored_is_tree}
 use Rattle.lido_base.specs.Plain.{Plain, plain, plain_item, plain_tree}
 use Rattle.lido_base.specs.Tree.{Item, Child, Leaf, IsTree, rule_at, items_of, parent_of, place_of, children, child_number, ancestors, unroll, and_above, continues, contains, is_just}
 use Rattle.flat_grammar.specs.declared.flat.FlatSymbol.{FlatSymbol}
@@ -30,67 +31,6 @@ leaf_child : (u : Plain) (d : ℕ) → ◌≡◌ {A = Item Plain} (Leaf u) (Chil
 leaf_child u d e = cc
 
 module _ (texts : List (List ℕ)) where
-  pub rule_at-plain : (W : Table) (n : ℕ) → rule_at (plain_tree texts W) n ≡ rule_at W n
-  rule_at-plain [] n = refl
-  rule_at-plain (first ∷ W) zero = refl
-  rule_at-plain (first ∷ W) (suc n) = rule_at-plain W n
-
-  pub items_of-plain : (W : Table) (n : ℕ) → items_of (plain_tree texts W) n ≡ map (plain_item texts) (items_of W n)
-  items_of-plain [] n = refl
-  items_of-plain (first ∷ W) zero = refl
-  items_of-plain (first ∷ W) (suc n) = items_of-plain W n
-
-  pub length-plain : (W : Table) → length (plain_tree texts W) ≡ length W
-  length-plain [] = refl
-  length-plain (first ∷ W) = ap suc (length-plain W)
-
-  parent_of-plain : (W : Table) (n : ℕ) → parent_of (plain_tree texts W) n ≡ parent_of W n
-  parent_of-plain [] n = refl
-  parent_of-plain (first ∷ W) zero = refl
-  parent_of-plain (first ∷ W) (suc n) = parent_of-plain W n
-
-  place_of-plain : (W : Table) (n : ℕ) → place_of (plain_tree texts W) n ≡ place_of W n
-  place_of-plain [] n = refl
-  place_of-plain (first ∷ W) zero = refl
-  place_of-plain (first ∷ W) (suc n) = place_of-plain W n
-
-  numbers-plain : (items : List (Item Value)) → filter_map child_number (map (plain_item texts) items) ≡ filter_map child_number items
-  numbers-plain [] = refl
-  numbers-plain (Child c ∷ items) = ap (λ xs. c ∷ xs) (numbers-plain items)
-  numbers-plain (Leaf v ∷ items) = numbers-plain items
-
-  children-plain : (W : Table) (n : ℕ) → children (plain_tree texts W) n ≡ children W n
-  children-plain W n = ap (filter_map child_number) (items_of-plain W n) ∙ numbers-plain (items_of W n)
-
-  climb-plain : (W : Table) (turns n : ℕ) → unroll [] (λ above m. and_above above (parent_of (plain_tree texts W) m)) turns n ≡ unroll [] (λ above m. and_above above (parent_of W m)) turns n
-  climb-plain W zero n = refl
-  climb-plain W (suc turns) n = ap (and_above (unroll [] (λ above m. and_above above (parent_of (plain_tree texts W) m)) turns)) (parent_of-plain W n) ∙ go (parent_of W n) (λ p. climb-plain W turns p)
-    where
-      go : (o : Option ℕ) → ((p : ℕ) → unroll [] (λ above m. and_above above (parent_of (plain_tree texts W) m)) turns p ≡ unroll [] (λ above m. and_above above (parent_of W m)) turns p)
-          → and_above (unroll [] (λ above m. and_above above (parent_of (plain_tree texts W) m)) turns) o ≡ and_above (unroll [] (λ above m. and_above above (parent_of W m)) turns) o
-      go None ih = refl
-      go (Some p) ih = ap (λ xs. p ∷ xs) (ih p)
-
-  ancestors-plain : (W : Table) (n : ℕ) → ancestors (plain_tree texts W) n ≡ ancestors W n
-  unfolding ancestors
-  ancestors-plain W n = climb-plain W n n
-
-  continues-plain : (W : Table) (n : ℕ) (o : Option ℕ) → continues (plain_tree texts W) n o ≡ continues W n o
-  continues-plain W n None = refl
-  continues-plain W n (Some p) = ap (λ above. nat_eq p n || contains p above) (ancestors-plain W n)
-
-  -- a tree is one with its terminals as they are stored
-  pub tree-plain : (W : Table) → IsTree (plain_tree texts W) → IsTree W
-  tree-plain W t = record {
-    has_root = let h = t.has_root in omega (arith, length-plain W);
-    root_first = sym (parent_of-plain W 0) ∙ t.root_first;
-    root_place = sym (place_of-plain W 0) ∙ t.root_place;
-    in_preorder = λ n h. subst IsTrue (ap (continues (plain_tree texts W) n) (parent_of-plain W (n + 1)) ∙ continues-plain W n (parent_of W (n + 1))) (t.in_preorder n (omega (arith, length-plain W)));
-    items_agree = λ n c. ap (contains c) (sym (children-plain W n)) ∙ t.items_agree n c ∙ ap (λ l. nat_lt c l && is_just n (parent_of (plain_tree texts W) c)) (length-plain W) ∙ ap (λ o. nat_lt c (length W) && is_just n o) (parent_of-plain W c);
-    children_ascend = λ n. subst IsStrictlyIncreasing (children-plain W n) (t.children_ascend n);
-    places_agree = λ n k c e. sym (place_of-plain W c) ∙ t.places_agree n k c (ap (λ xs. slice_get xs k) (items_of-plain W n) ∙ slice_get-map (plain_item texts) (items_of W n) k ∙ ap (option_map (plain_item texts)) e);
-  }
-
   module _ (symbols : List FlatSymbol) (rules : List FlatRule) (shapes : List Shape) (root : SymId) (well : IsWellFormed symbols rules shapes root) (W : Table) (fits : IsFitting symbols rules shapes root (plain_tree texts W)) where
     no_terminal : (s : SymId) (ty : ValueType) → IsTrue (is_nonterminal symbols s) → IsTerminal symbols rules shapes root (plain_tree texts W) s ty → ⊥
     no_terminal s ty non (x, at, is) = differ (subst (λ o. IsTrue (is_nonterminal_symbol o)) at non)
@@ -107,11 +47,11 @@ module _ (texts : List (List ℕ)) where
     -- each node of it has what the grammar asks for
     pub suits : Suits symbols rules shapes W
     suits = record {
-      tree = tree-plain W fits.tree;
+      tree = stored_is_tree texts W fits.tree;
       shaped = shaped;
       ruled = λ n h. let s = shaped n h in let r = shape_rule symbols rules shapes root well s.0 s.1 in (r.0, (s.0.rule.0, s.2, r.1), r.2);
       few = λ n shape among is plain. (
-        sym (length-map (items_of W n) (plain_item texts)) ∙ ap length (sym (items_of-plain W n)) ∙ AllZip-long _ shape.right (items_of (plain_tree texts W) n) (fits.plain n shape (among, rule_at-plain W n ∙ is) plain),
+        sym (length-map (items_of W n) (plain_item texts)) ∙ ap length (sym (plain_items texts W n)) ∙ AllZip-long _ shape.right (items_of (plain_tree texts W) n) (fits.plain n shape (among, plain_rule texts W n ∙ is) plain),
         few_in_shape symbols rules shapes root well shape among plain,
       );
       cells = λ n shape among is list. is_cell_of symbols rules shapes root well shape among list;
@@ -119,20 +59,20 @@ module _ (texts : List (List ℕ)) where
     }
       where
         shaped : (n : ℕ) → n < length W → (shape : Shape) × Contains shapes shape × (rule_at W n ≡ Some shape.rule.0)
-        shaped n h = let (shape, has) = fits.shaped n (omega (arith, length-plain W)) in (shape, has.0, sym (rule_at-plain W n) ∙ has.1)
+        shaped n h = let (shape, has) = fits.shaped n (omega (arith, plain_length texts W)) in (shape, has.0, sym (plain_rule texts W n) ∙ has.1)
 
         elements : (n k : ℕ) (x : Item Value) (shape : Shape) → Contains shapes shape → rule_at W n ≡ Some shape.rule.0 → shape.list ≡ true → slice_get (items_of W n) k ≡ Some x
             → (c : ℕ) × (x ≡ Child c) × ((r : FlatRule) → HasRule rules W c r → (i : ℕ) × (q : FlatRule) × (slice_get rules i ≡ Some q) × (q.left ≡ cell_of symbols rules shape) × (q.right ≡ r.left ∷ cell_of symbols rules shape ∷ []))
         elements n k x shape among is list at =
-            let there : slice_get (items_of (plain_tree texts W) n) k ≡ Some (plain_item texts x) = ap (λ xs. slice_get xs k) (items_of-plain W n) ∙ slice_get-map (plain_item texts) (items_of W n) k ∙ ap (option_map (plain_item texts)) at in
-            let (s, m, item) = fits.lists n shape (among, rule_at-plain W n ∙ is) list k (plain_item texts x) (slice_get_within (items_of (plain_tree texts W) n) k (plain_item texts x) there) in
+            let there : slice_get (items_of (plain_tree texts W) n) k ≡ Some (plain_item texts x) = ap (λ xs. slice_get xs k) (plain_items texts W n) ∙ slice_get-map (plain_item texts) (items_of W n) k ∙ ap (option_map (plain_item texts)) at in
+            let (s, m, item) = fits.lists n shape (among, plain_rule texts W n ∙ is) list k (plain_item texts x) (slice_get_within (items_of (plain_tree texts W) n) k (plain_item texts x) there) in
             let (c, same, has) = child_of s (element_nonterminal symbols rules shapes root well shape among list s m) x (get_or (items_of (plain_tree texts W) n) k (plain_item texts x)) (sym (get_or_from_slice_get (items_of (plain_tree texts W) n) k (plain_item texts x) (plain_item texts x) there)) item in
             (c, same, λ r known. rule_for s m c has r known)
           where
             rule_for : (s : SymId) → Contains shape.right s → (c : ℕ) → HasSymbol symbols rules shapes root (plain_tree texts W) c s → (r : FlatRule) → HasRule rules W c r
                 → (i : ℕ) × (q : FlatRule) × (slice_get rules i ≡ Some q) × (q.left ≡ cell_of symbols rules shape) × (q.right ≡ r.left ∷ cell_of symbols rules shape ∷ [])
             rule_for s m c (r0, (i0, e0, got0), left) r (i, e, got) =
-                let number : i0 ≡ i = some_same (sym e0 ∙ rule_at-plain W c ∙ e) in
+                let number : i0 ≡ i = some_same (sym e0 ∙ plain_rule texts W c ∙ e) in
                 let same : r0 ≡ r = some_same (sym got0 ∙ ap (slice_get rules) number ∙ got) in
                 subst (λ z. (i : ℕ) × (q : FlatRule) × (slice_get rules i ≡ Some q) × (q.left ≡ cell_of symbols rules shape) × (q.right ≡ z ∷ cell_of symbols rules shape ∷ [])) (sym left ∙ ap (λ (z : FlatRule). z.left) same)
                 (element_has_rule symbols rules shapes root well shape among list s m)

@@ -4,7 +4,7 @@ use Rattle.std.proofs.Common.{◌≡◌, ℕ, zero, suc, ◌+◌, ◌<◌, ◌�
 use Rattle.std.proofs.lemmas.Option.{slice_get_within}
 use Rattle.lido_base.specs.declared.ids.SymId.{SymId}
 use Rattle.lido_base.specs.declared.value.Value.{Value}
-use Rattle.lido_base.specs.Tree.{Node, Item, Child, Leaf, IsTree, parent_of, items_of, rule_at, with_item, with_node, child_number, children}
+use Rattle.lido_base.specs.Tree.{Node, Item, Child, Leaf, IsTree, parent_of, line_of, column_of, items_of, rule_at, with_item, with_node, child_number, children}
 use Rattle.flat_grammar.specs.declared.flat.FlatSymbol.{FlatSymbol}
 use Rattle.flat_grammar.specs.declared.flat.FlatRule.{FlatRule}
 use Rattle.flat_grammar.specs.declared.flat.Shape.{Shape}
@@ -13,7 +13,7 @@ use Rattle.flat_grammar.specs.FlatTrees.{StandsFor, AreItems, AreCells}
 use Rattle.tree_store.specs.Growth.{IsOpen}
 use Rattle.tree_store.proofs.GrowthLemmas.{get_before, get_last, length-with_item, parent_of-with_item, items_of-with_item_other, length-grown, parent_of-grown, parent_of-added, items_of-parent, items_of-other, IsTree-with_node, IsTree-leaf, open_inside}
 use Rattle.tree_store.proofs.OpenLemmas.{open_added, open_parent, open_kept}
-use Rattle.tree_flattener.specs.Drafts.{Table, Grows, Fills, IsCellOf, IsChain, IsUpToAs, IsWholeAs}
+use Rattle.tree_flattener.specs.Drafts.{Table, IsGrown, Grows, Fills, IsCellOf, IsChain, IsUpToAs, IsWholeAs}
 
 pub rule_at-with_item : (t : Table) (p : ℕ) (x : Item Value) (n : ℕ) → rule_at (with_item t p x) n ≡ rule_at t n
 rule_at-with_item [] p x n = refl
@@ -21,6 +21,20 @@ rule_at-with_item (node ∷ t) zero x zero = refl
 rule_at-with_item (node ∷ t) zero x (suc n) = refl
 rule_at-with_item (node ∷ t) (suc p) x zero = refl
 rule_at-with_item (node ∷ t) (suc p) x (suc n) = rule_at-with_item t p x n
+
+pub line_of-with_item : (t : Table) (p : ℕ) (x : Item Value) (n : ℕ) → line_of (with_item t p x) n ≡ line_of t n
+line_of-with_item [] p x n = refl
+line_of-with_item (node ∷ t) zero x zero = refl
+line_of-with_item (node ∷ t) zero x (suc n) = refl
+line_of-with_item (node ∷ t) (suc p) x zero = refl
+line_of-with_item (node ∷ t) (suc p) x (suc n) = line_of-with_item t p x n
+
+pub column_of-with_item : (t : Table) (p : ℕ) (x : Item Value) (n : ℕ) → column_of (with_item t p x) n ≡ column_of t n
+column_of-with_item [] p x n = refl
+column_of-with_item (node ∷ t) zero x zero = refl
+column_of-with_item (node ∷ t) zero x (suc n) = refl
+column_of-with_item (node ∷ t) (suc p) x zero = refl
+column_of-with_item (node ∷ t) (suc p) x (suc n) = column_of-with_item t p x n
 
 rule_at_before : (t : Table) (node : Node Value) (n : ℕ) → n < length t → rule_at (t ++ node ∷ []) n ≡ rule_at t n
 rule_at_before t node n h = rw (get_before t node n h) refl
@@ -49,20 +63,20 @@ pub record Adds (F G : Table) (rule p : ℕ) : Type 0 where
   pub open_new : IsOpen G (length F)
   pub open_parent : IsOpen G p
 
-pub adds : (F : Table) → IsTree F → (rule p : ℕ) → IsOpen F p → (G : Table) → G ≡ with_node F rule (Some p) → Adds F G rule p
-adds F tree rule p open_p G e = subst (λ g. Adds F g rule p) (sym e) (record {
-  count = length-grown F tree rule p open_p;
+pub adds : (F : Table) → IsTree F → (rule p : ℕ) → IsOpen F p → (G : Table) → IsGrown F rule (Some p) G → Adds F G rule p
+adds F tree rule p open_p G (line, column, e) = subst (λ g. Adds F g rule p) (sym e) (record {
+  count = length-grown F tree rule p line column open_p;
   parent_there = inside;
   rules = λ n h. rule_at_before (with_item F p (Child (length F))) _ n (omega (arith, length-with_item F p (Child (length F)))) ∙ rule_at-with_item F p (Child (length F)) n;
   own_rule = rule_at_last (with_item F p (Child (length F))) _ (length F) (sym (length-with_item F p (Child (length F))));
-  parents = parent_of-grown F tree rule p open_p;
-  own_parent = parent_of-added F tree rule p open_p;
-  items_there = items_of-parent F tree rule p open_p;
-  items_same = items_of-other F tree rule p open_p;
-  items_new = items_of-other F tree rule p open_p (length F) (λ same. omega (arith, inside)) ∙ items_past F (length F) (omega arith);
-  tree = IsTree-with_node F tree rule p open_p;
-  open_new = open_added F rule (Some p);
-  open_parent = open_parent F tree rule p open_p;
+  parents = parent_of-grown F tree rule p line column open_p;
+  own_parent = parent_of-added F tree rule p line column open_p;
+  items_there = items_of-parent F tree rule p line column open_p;
+  items_same = items_of-other F tree rule p line column open_p;
+  items_new = items_of-other F tree rule p line column open_p (length F) (λ same. omega (arith, inside)) ∙ items_past F (length F) (omega arith);
+  tree = IsTree-with_node F tree rule p line column open_p;
+  open_new = open_added F rule (Some p) line column;
+  open_parent = open_parent F tree rule p line column open_p;
 })
   where
     inside : p < length F

@@ -12,6 +12,7 @@ pub mod OneRoleLemmas
 pub mod OneRuleLemmas
 pub mod OneTreeLemmas
 pub mod PathLemmas
+pub mod PlacedLemmas
 pub mod ShapeLemmas
 pub mod StepLemmas
 pub mod TableLemmas

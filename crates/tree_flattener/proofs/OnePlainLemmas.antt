@@ -5,6 +5,7 @@ use Rattle.std.specs.List.Sorted.{IsStrictlyIncreasing}
 use Rattle.std.proofs.Common.{◌≡◌, ℕ, zero, suc, ◌+◌, List, [], ◌∷◌, length, Option, Some, None, refl, ap, sym, subst, ◌∙◌, arith}
 use Rattle.lido_base.specs.declared.ids.SymId.{SymId}
 use Rattle.lido_base.specs.declared.value.Value.{Value}
+use Rattle.lido_base.proofs.PlainLemmas.{plain_rule, plain_line, plain_column, plain_items, plain_length, plain_children, plain_is_tree}
 use Rattle.lido_base.specs.Plain.{Plain, plain, plain_item, plain_tree}
 use Rattle.lido_base.specs.Tree.{Tree, Node, Item, Child, Leaf, IsTree, child_number, rule_at, parent_of, place_of, items_of, children, ancestors, and_above, unroll, contains, continues, is_just}
 use Rattle.flat_grammar.specs.declared.flat.FlatSymbol.{FlatSymbol}
@@ -16,75 +17,12 @@ use Rattle.flat_grammar.specs.Fitting.{instances, text_cells}
 use Rattle.flat_grammar.specs.FlatTrees.{StandsFor, AreCells, AreItems, IsFlatTree}
 
 module _ (texts : List (List ℕ)) where
-  plain_rule : (t : Tree Value) (n : ℕ) → rule_at (plain_tree texts t) n ≡ rule_at t n
-  plain_rule [] n = refl
-  plain_rule (node ∷ t) zero = refl
-  plain_rule (node ∷ t) (suc n) = plain_rule t n
-
-  plain_parent : (t : Tree Value) (n : ℕ) → parent_of (plain_tree texts t) n ≡ parent_of t n
-  plain_parent [] n = refl
-  plain_parent (node ∷ t) zero = refl
-  plain_parent (node ∷ t) (suc n) = plain_parent t n
-
-  plain_place : (t : Tree Value) (n : ℕ) → place_of (plain_tree texts t) n ≡ place_of t n
-  plain_place [] n = refl
-  plain_place (node ∷ t) zero = refl
-  plain_place (node ∷ t) (suc n) = plain_place t n
-
-  plain_items : (t : Tree Value) (n : ℕ) → items_of (plain_tree texts t) n ≡ map (plain_item texts) (items_of t n)
-  plain_items [] n = refl
-  plain_items (node ∷ t) zero = refl
-  plain_items (node ∷ t) (suc n) = plain_items t n
-
-  plain_length : (t : Tree Value) → length (plain_tree texts t) ≡ length t
-  plain_length [] = refl
-  plain_length (node ∷ t) = ap suc (plain_length t)
-
-  same_children : (items : List (Item Value)) → filter_map child_number (map (plain_item texts) items) ≡ filter_map child_number items
-  same_children [] = refl
-  same_children (Child c ∷ items) = ap (λ cs. c ∷ cs) (same_children items)
-  same_children (Leaf v ∷ items) = same_children items
-
-  plain_children : (t : Tree Value) (n : ℕ) → children (plain_tree texts t) n ≡ children t n
-  plain_children t n = ap (filter_map child_number) (plain_items t n) ∙ same_children (items_of t n)
-
-  plain_ancestors : (t : Tree Value) (n : ℕ) → ancestors (plain_tree texts t) n ≡ ancestors t n
-  unfolding ancestors
-  plain_ancestors t n = ap (λ (parent : ℕ → Option ℕ). unroll [] (λ above m. and_above above (parent m)) n n) (λ i m. plain_parent t m i)
-
-  -- a child among the plain items is one
-  same_child_item : (items : List (Item Value)) (k c : ℕ) → slice_get (map (plain_item texts) items) k ≡ Some (Child c)
-      → slice_get items k ≡ Some (Child c)
-  same_child_item [] k c e = cc
-  same_child_item (Child d ∷ items) zero c e = let same : d ≡ c = cc in ap (λ d. Some (Child d)) same
-  same_child_item (Leaf v ∷ items) zero c e = cc
-  same_child_item (x ∷ items) (suc k) c e = same_child_item items k c e
-
-  plain_continues : (t : Tree Value) (n : ℕ) → (o : Option ℕ) → continues (plain_tree texts t) n o ≡ continues t n o
-  plain_continues t n None = refl
-  plain_continues t n (Some p) = rw (plain_ancestors t n) refl
-
-  plain_is_tree : (t : Tree Value) → IsTree t → IsTree (plain_tree texts t)
-  plain_is_tree t tree = record {
-    has_root = let e = plain_length t in let h = tree.has_root in omega arith;
-    root_first = plain_parent t 0 ∙ tree.root_first;
-    root_place = plain_place t 0 ∙ tree.root_place;
-    in_preorder = λ n h. plain_continues t n (parent_of (plain_tree texts t) (n + 1)) ∙ ap (continues t n) (plain_parent t (n + 1))
-        ∙ tree.in_preorder n (let e = plain_length t in omega arith);
-    items_agree = λ n c. ap (contains c) (plain_children t n) ∙ tree.items_agree n c
-        ∙ sym (ap (λ l. nat_lt c l && is_just n (parent_of (plain_tree texts t) c)) (plain_length t)
-        ∙ ap (λ o. nat_lt c (length t) && is_just n o) (plain_parent t c));
-    children_ascend = λ n. subst IsStrictlyIncreasing (sym (plain_children t n)) (tree.children_ascend n);
-    places_agree = λ n k c e. plain_place t c
-        ∙ tree.places_agree n k c (same_child_item (items_of t n) k c (sym (ap (λ items. slice_get items k) (plain_items t n)) ∙ e));
-  }
-
   module _ (symbols : List FlatSymbol) (rules : List FlatRule) (shapes : List Shape) (W F : Tree Value) (ns : List ℕ) where
     plain_has : (n : ℕ) (r : FlatRule) → HasRule rules F n r → HasRule rules (plain_tree texts F) n r
-    plain_has n r (i, at, e) = (i, plain_rule F n ∙ at, e)
+    plain_has n r (i, at, e) = (i, plain_rule texts F n ∙ at, e)
 
     has_plain : (n : ℕ) (r : FlatRule) → HasRule rules (plain_tree texts F) n r → HasRule rules F n r
-    has_plain n r (i, at, e) = (i, sym (plain_rule F n) ∙ at, e)
+    has_plain n r (i, at, e) = (i, sym (plain_rule texts F n) ∙ at, e)
 
     plain_stands : (n w : ℕ) → StandsFor symbols rules shapes W F ns n w
         → StandsFor symbols rules shapes (plain_tree texts W) (plain_tree texts F) ns n w
@@ -108,7 +46,7 @@ module _ (texts : List (List ℕ)) where
     plain_cells : (cell : SymId) (w c : ℕ) (xs : List ℕ) → AreCells symbols rules shapes W F ns cell w c xs
         → AreCells symbols rules shapes (plain_tree texts W) (plain_tree texts F) ns cell w c xs
     plain_cells cell w c [] (r, has, left, right, none, of) =
-        (r, plain_has c r has, left, right, plain_items F c ∙ ap (map (plain_item texts)) none, of)
+        (r, plain_has c r has, left, right, plain_items texts F c ∙ ap (map (plain_item texts)) none, of)
     plain_cells cell w c (x ∷ xs) (r, element, e, next, has, has_element, left, right, items, of, stands, rest) = (
       r,
       element,
@@ -118,7 +56,7 @@ module _ (texts : List (List ℕ)) where
       plain_has e element has_element,
       left,
       right,
-      plain_items F c
+      plain_items texts F c
           ∙ ap (map (plain_item texts)) items,
       of,
       plain_stands e x stands,
@@ -127,24 +65,26 @@ module _ (texts : List (List ℕ)) where
 
     pub plain_flat_tree : IsFlatTree symbols rules shapes W F ns → IsFlatTree symbols rules shapes (plain_tree texts W) (plain_tree texts F) ns
     plain_flat_tree f = record {
-      tree = plain_is_tree F f.tree;
-      each_node = f.each_node ∙ sym (plain_length F);
+      tree = plain_is_tree texts F f.tree;
+      each_node = f.each_node ∙ sym (plain_length texts F);
       same_root = plain_stands 0 0 f.same_root;
       in_order = λ n m w x s t h. f.in_order n m w x (stands_plain n w s) (stands_plain m x t) h;
-      all_written = λ w h. let n = f.all_written w (let e = plain_length W in omega arith) in (n.0, plain_stands n.0 w n.1);
-      same_rules = λ n w s. plain_rule F n ∙ f.same_rules n w (stands_plain n w s) ∙ sym (plain_rule W w);
+      all_written = λ w h. let n = f.all_written w (let e = plain_length texts W in omega arith) in (n.0, plain_stands n.0 w n.1);
+      same_rules = λ n w s. plain_rule texts F n ∙ f.same_rules n w (stands_plain n w s) ∙ sym (plain_rule texts W w);
+      same_lines = λ n w of. plain_line texts F n ∙ f.same_lines n w of ∙ sym (plain_line texts W w);
+      same_columns = λ n w of. plain_column texts F n ∙ f.same_columns n w of ∙ sym (plain_column texts W w);
       plain_nodes = λ n w shape among s at plain. subst
           (λ is. AreItems symbols rules shapes (plain_tree texts W) (plain_tree texts F) ns is (items_of (plain_tree texts W) w))
-          (sym (plain_items F n))
+          (sym (plain_items texts F n))
           (subst (AreItems symbols rules shapes (plain_tree texts W) (plain_tree texts F) ns (map (plain_item texts) (items_of F n)))
-          (sym (plain_items W w))
-          (plain_are_items (items_of F n) (items_of W w) (f.plain_nodes n w shape among (stands_plain n w s) (sym (plain_rule F n) ∙ at) plain)));
-      list_nodes = λ n w shape among s at list. let cells = f.list_nodes n w shape among (stands_plain n w s) (sym (plain_rule F n) ∙ at) list in (
+          (sym (plain_items texts W w))
+          (plain_are_items (items_of F n) (items_of W w) (f.plain_nodes n w shape among (stands_plain n w s) (sym (plain_rule texts F n) ∙ at) plain)));
+      list_nodes = λ n w shape among s at list. let cells = f.list_nodes n w shape among (stands_plain n w s) (sym (plain_rule texts F n) ∙ at) list in (
         cells.0,
-        plain_items F n ∙ ap (map (plain_item texts)) cells.1,
+        plain_items texts F n ∙ ap (map (plain_item texts)) cells.1,
         subst
             (AreCells symbols rules shapes (plain_tree texts W) (plain_tree texts F) ns (cell_of symbols rules shape) w cells.0)
-            (sym (plain_children W w))
+            (sym (plain_children texts W w))
             (plain_cells (cell_of symbols rules shape) w cells.0 (children W w) cells.2),
       );
     }

@@ -6,7 +6,7 @@ use Rattle.std.proofs.lemmas.Bool.{cases_lt}
 use Rattle.std.proofs.lemmas.Option.{slice_get_within}
 use Rattle.lido_base.specs.declared.ids.SymId.{SymId}
 use Rattle.lido_base.specs.Plain.{Plain}
-use Rattle.lido_base.specs.Tree.{Tree, Node, Item, Child, Leaf, rule_at, parent_of, place_of, items_of}
+use Rattle.lido_base.specs.Tree.{Tree, Node, Item, Child, Leaf, rule_at, parent_of, place_of, line_of, column_of, items_of}
 use Rattle.flat_grammar.specs.declared.flat.FlatSymbol.{FlatSymbol}
 use Rattle.flat_grammar.specs.declared.flat.FlatRule.{FlatRule}
 use Rattle.flat_grammar.specs.declared.flat.Shape.{Shape}
@@ -162,8 +162,17 @@ module _ (symbols : List FlatSymbol) (rules : List FlatRule) (shapes : List Shap
         let parent : x.parent ≡ y.parent = sym (ap (option_and_then (λ (node : Node V). node.parent)) e) ∙ same.parent
         ∙ ap (option_and_then (λ (node : Node V). node.parent)) h in
         let place : x.place ≡ y.place = sym (placed F e) ∙ same.place ∙ placed G h in
-        λ i. record { rule = rule i; parent = parent i; place = place i; items = items i }
+        let (w, one, two) = alike_numbers symbols rules shapes W F G ns ms n n same.role in
+        let line : x.line ≡ y.line = sym (lined F e) ∙ f.same_lines n w one ∙ sym (g.same_lines n w two) ∙ lined G h in
+        let column : x.column ≡ y.column = sym (in_column F e) ∙ f.same_columns n w one ∙ sym (g.same_columns n w two) ∙ in_column G h in
+        λ i. record { rule = rule i; parent = parent i; place = place i; line = line i; column = column i; items = items i }
       where
+        lined : (t : Tree V) {z : Node V} → slice_get t n ≡ Some z → line_of t n ≡ z.line
+        lined t e = rw (e, line_of) refl
+
+        in_column : (t : Tree V) {z : Node V} → slice_get t n ≡ Some z → column_of t n ≡ z.column
+        in_column t e = rw (e, column_of) refl
+
         placed : (t : Tree V) {z : Node V} → slice_get t n ≡ Some z → place_of t n ≡ z.place
         placed t e = rw (e, place_of) refl
 

@@ -7,7 +7,7 @@ use Rattle.std.proofs.lemmas.Option.{slice_get_within}
 use Rattle.lido_base.specs.declared.ids.SymId.{SymId}
 use Rattle.lido_base.specs.declared.ids.RuleId.{RuleId}
 use Rattle.lido_base.specs.declared.value.Value.{Value}
-use Rattle.lido_base.specs.Tree.{Item, Child, IsTree, parent_of, place_of, items_of, item_at, rule_at, child_number, with_node, places, ancestors}
+use Rattle.lido_base.specs.Tree.{Item, Child, IsTree, parent_of, place_of, items_of, item_at, rule_at, child_number, places, ancestors}
 use Rattle.lido_base.proofs.TreeLemmas.{parent_before, ancestors-root}
 use Rattle.flat_grammar.specs.declared.flat.FlatSymbol.{FlatSymbol}
 use Rattle.flat_grammar.specs.declared.flat.FlatRule.{FlatRule}
@@ -17,7 +17,7 @@ use Rattle.flat_grammar.specs.FlatTrees.{StandsFor, AreItems, AreCells, IsCellNo
 use Rattle.tree_store.specs.Growth.{IsOpen}
 use Rattle.tree_store.proofs.GrowthLemmas.{get_before, get_last, open_inside}
 use Rattle.tree_flattener.specs.Forms.{IsElementRule, IsEndRule}
-use Rattle.tree_flattener.specs.Drafts.{Table, IsOnPath, Grows, Fills, Suits, IsCellOf, IsChain, IsUpToAs, IsWholeAs, IsUpTo, IsWhole, IsDraft, IsAttached, IsClosed}
+use Rattle.tree_flattener.specs.Drafts.{Table, IsGrown, IsOnPath, Grows, Fills, Suits, IsCellOf, IsChain, IsUpToAs, IsWholeAs, IsUpTo, IsWhole, IsDraft, IsAttached, IsClosed}
 use Rattle.tree_flattener.proofs.PathLemmas.{with_parent_inside, on_path_before, child_parent, above_before}
 use Rattle.tree_flattener.proofs.GrowLemmas.{Adds, adds_grows, grows_on, fills_grow, items_grow, some_same}
 use Rattle.tree_flattener.proofs.ChainLemmas.{chain_last, chain_open, chain_more, chain_end}
@@ -297,8 +297,8 @@ module _ (symbols : List FlatSymbol) (rules : List FlatRule) (shapes : List Shap
             past k w h of = let l = slice_get_within node_of k w of in omega (arith, each)
 
   -- the root alone
-  pub first_draft : 0 < length W → (F : Table) (j : ℕ) → rule_at W 0 ≡ Some j → F ≡ with_node [] j None → IsTree F → IsOpen F 0 → IsDraft symbols rules shapes W F (0 ∷ []) (0 ∷ []) 1 0 0 0
-  first_draft some F j rule_is e tree open_root = record {
+  pub first_draft : 0 < length W → (F : Table) (j : ℕ) → rule_at W 0 ≡ Some j → IsGrown [] j None F → IsTree F → IsOpen F 0 → IsDraft symbols rules shapes W F (0 ∷ []) (0 ∷ []) 1 0 0 0
+  first_draft some F j rule_is (line, column, e) tree open_root = record {
     numbered = record {
       tree = tree;
       each_node = sym (ap length e);

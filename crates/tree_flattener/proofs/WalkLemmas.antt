@@ -17,7 +17,7 @@ use Rattle.tree_store.specs.Growth.{IsOpen, IsTerminal}
 use Rattle.tree_flattener.specs.declared.draft.Draft.{Draft}
 use Rattle.tree_flattener.specs.declared.draft.Spot.{Spot}
 use Rattle.tree_flattener.specs.Forms.{IsEndRule, AreElementRules}
-use Rattle.tree_flattener.specs.Drafts.{Table, IsOnPath, Fills, Suits, IsNumbered, IsDraft, IsAttached, IsClosed, IsWalk, HasForm, most_nodes}
+use Rattle.tree_flattener.specs.Drafts.{Table, IsGrown, IsPlaced, IsOnPath, Fills, Suits, IsNumbered, IsDraft, IsAttached, IsClosed, IsWalk, HasForm, most_nodes}
 use Rattle.tree_flattener.proofs.PathLemmas.{with_parent_inside, own_item, place_inside, preorder_parent, no_more, child_parent}
 use Rattle.tree_flattener.proofs.GrowLemmas.{Adds, adds, some_same}
 use Rattle.tree_flattener.proofs.ItemLemmas.{there, take_all, take_short, items_length, rest_terminals, terminals_between, next_behind}
@@ -45,7 +45,7 @@ module _ (symbols : List FlatSymbol) (rules : List FlatRule) (shapes : List Shap
     few_in_cell = (tail_of_list symbols rules shapes W walk.suits s.flat s.node_of s.flat_of (length s.flat_of) at.node at.tail at.done walk.draft walk.within lists).1
 
     pub closed_list : ((k c : ℕ) → item_at W at.node k ≡ Some (Child c) → c < length s.flat_of) → (i : RuleId) → HasForm symbols rules shapes W (λ shape. IsEndRule rules (cell_of symbols rules shape) i) at.node
-        → (G : Table) (more : List ℕ) → G ≡ with_node s.flat i.0 (Some at.tail) → more ≡ s.node_of ++ at.node ∷ [] → IsClosed symbols rules shapes W s.flat s.node_of s.flat_of G more at.node
+        → (G : Table) (more : List ℕ) → IsGrown s.flat i.0 (Some at.tail) G → more ≡ s.node_of ++ at.node ∷ [] → IsClosed symbols rules shapes W s.flat s.node_of s.flat_of G more at.node
     closed_list all_met i ends G more e f = subst (λ z. IsClosed symbols rules shapes W s.flat s.node_of s.flat_of G z at.node) (sym f)
         (list_closed symbols rules shapes W walk.suits s.flat s.node_of s.flat_of (length s.flat_of) at.node at.tail at.done walk.draft walk.within lists all_met i ends G
         (adds s.flat walk.draft.numbered.tree i.0 at.tail walk.draft.open_tail G e))
@@ -64,7 +64,7 @@ module _ (symbols : List FlatSymbol) (rules : List FlatRule) (shapes : List Shap
               child_same : {x : Item Value} {a b : ℕ} → x ≡ Child a → x ≡ Child b → a ≡ b
               child_same e f = cc
 
-      pub attached_element : (i : RuleId) → slice_get elements r.left.0 ≡ Some (Some i) → (H G : Table) (more : List ℕ) (f : ℕ) → H ≡ with_node s.flat i.0 (Some at.tail) → G ≡ with_node H has.0 (Some (length s.flat)) → more ≡ (s.node_of ++ at.node ∷ []) ++ length s.flat_of ∷ []
+      pub attached_element : (i : RuleId) → slice_get elements r.left.0 ≡ Some (Some i) → (H G : Table) (more : List ℕ) (f : ℕ) → IsGrown s.flat i.0 (Some at.tail) H → IsGrown H has.0 (Some (length s.flat)) G → more ≡ (s.node_of ++ at.node ∷ []) ++ length s.flat_of ∷ []
           → f ≡ length H → IsAttached symbols rules shapes W s.flat s.node_of s.flat_of G more at.node (length s.flat_of) f
       attached_element i found H G more f one two e is =
           let first = adds s.flat walk.draft.numbered.tree i.0 at.tail walk.draft.open_tail H one in
@@ -91,7 +91,7 @@ module _ (symbols : List FlatSymbol) (rules : List FlatRule) (shapes : List Shap
 
     module _ (up : parent_of W (length s.flat_of) ≡ Some at.node) (j : ℕ) (rule_is : rule_at W (length s.flat_of) ≡ Some j) where
       pub attached_child : (end : ℕ) → suc end ≡ place_of W (length s.flat_of) → (H G : Table) (mid more : List ℕ) (f : ℕ) → Fills s.flat H at.tail → mid ≡ s.node_of
-          → AreItems symbols rules shapes W H mid (items_of H at.tail) (take end (items_of W at.node)) → G ≡ with_node H j (Some at.tail) → more ≡ mid ++ length s.flat_of ∷ [] → f ≡ length H
+          → AreItems symbols rules shapes W H mid (items_of H at.tail) (take end (items_of W at.node)) → IsGrown H j (Some at.tail) G → more ≡ mid ++ length s.flat_of ∷ [] → f ≡ length H
           → IsAttached symbols rules shapes W s.flat s.node_of s.flat_of G more at.node (length s.flat_of) f
       attached_child end to H G mid more f fills same h added e is =
           subst (λ z. IsAttached symbols rules shapes W s.flat s.node_of s.flat_of G more at.node (length s.flat_of) z) (sym is)
@@ -132,7 +132,7 @@ module _ (symbols : List FlatSymbol) (rules : List FlatRule) (shapes : List Shap
     numbered_closed = closed_numbered symbols rules shapes W walk.suits s.flat s.node_of s.flat_of (length s.flat_of) at.node at.tail at.done walk.draft G more a
 
     -- all is there once the root is closed
-    pub flat_tree_closed : at.node ≡ 0 → length s.flat_of ≡ length W → IsFlatTree symbols rules shapes W G more
+    pub flat_tree_closed : IsPlaced W G more → at.node ≡ 0 → length s.flat_of ≡ length W → IsFlatTree symbols rules shapes W G more
     flat_tree_closed = is_flat_tree symbols rules shapes W walk.suits s.flat s.node_of s.flat_of (length s.flat_of) at.node at.tail at.done walk.draft G more a
 
   -- with the node closed, the spot is at its parent
@@ -165,7 +165,7 @@ module _ (symbols : List FlatSymbol) (rules : List FlatRule) (shapes : List Shap
     place_forward = let h = place_behind child_up in omega (arith, ap (place_of W) next)
 
     -- a cell was added
-    pub cell_added : (i : ℕ) (H : Table) → H ≡ with_node s.flat i (Some at.tail) → Adds s.flat H i at.tail
+    pub cell_added : (i : ℕ) (H : Table) → IsGrown s.flat i (Some at.tail) H → Adds s.flat H i at.tail
     cell_added i H one = adds s.flat walk.draft.numbered.tree i at.tail walk.draft.open_tail H one
 
     module _ (lists : HasForm symbols rules shapes W (λ shape. shape.list ≡ true) at.node) (elements : List (Option RuleId)) (are : HasForm symbols rules shapes W (λ shape. AreElementRules rules (cell_of symbols rules shape) elements) at.node)
@@ -179,19 +179,19 @@ module _ (symbols : List FlatSymbol) (rules : List FlatRule) (shapes : List Shap
       pub element_is : (i : RuleId) × (slice_get elements rule_there.0.left.0 ≡ Some (Some i)) × (o ≡ Some i)
       element_is = (rule_found.0, rule_found.1, o_is rule_found.0 (ap (λ (z : SymId). slice_get elements z.0) (symbol_is rule_there.0 rule_there.1) ∙ rule_found.1))
 
-      pub element_added : (i : RuleId) → o ≡ Some i → (H G : Table) (mid more : List ℕ) (cell j f : ℕ) → H ≡ with_node s.flat i.0 (Some at.tail) → mid ≡ s.node_of ++ at.node ∷ [] → cell ≡ length s.flat → rule_at W n ≡ Some j
-          → G ≡ with_node H j (Some cell) → more ≡ mid ++ n ∷ [] → f ≡ length H → IsAttached symbols rules shapes W s.flat s.node_of s.flat_of G more at.node n f
+      pub element_added : (i : RuleId) → o ≡ Some i → (H G : Table) (mid more : List ℕ) (cell j f : ℕ) → IsGrown s.flat i.0 (Some at.tail) H → mid ≡ s.node_of ++ at.node ∷ [] → cell ≡ length s.flat → rule_at W n ≡ Some j
+          → IsGrown H j (Some cell) G → more ≡ mid ++ n ∷ [] → f ≡ length H → IsAttached symbols rules shapes W s.flat s.node_of s.flat_of G more at.node n f
       element_added i is H G mid more cell j f one mid_is cell_is rule_is two more_is f_is =
           let same : i ≡ element_is.0 = some_same (sym is ∙ element_is.2) in
           let number : rule_there.1.0 ≡ j = some_same (sym rule_there.1.1 ∙ rule_is) in
           subst (λ z. IsAttached symbols rules shapes W s.flat s.node_of s.flat_of G more at.node z f) (sym next)
           (attached_element lists child_up rule_there.0 (subst (λ z. HasRule rules W z rule_there.0) next rule_there.1) elements are i (element_is.1 ∙ ap (λ (z : RuleId). Some (Some z)) (sym same)) H G more f one
-          (two ∙ ap (λ z. with_node H j (Some z)) cell_is ∙ ap (λ z. with_node H z (Some (length s.flat))) (sym number))
+          (two.0, two.1, two.2 ∙ ap (λ z. with_node H j (Some z) two.0 two.1) cell_is ∙ ap (λ z. with_node H z (Some (length s.flat)) two.0 two.1) (sym number))
           (more_is ∙ ap (λ z. z ++ n ∷ []) mid_is ∙ ap (λ z. (s.node_of ++ at.node ∷ []) ++ z ∷ []) next) f_is)
 
     module _ (plain : HasForm symbols rules shapes W (λ shape. shape.list ≡ false) at.node) where
       pub child_added : (j : ℕ) → rule_at W n ≡ Some j → (place : ℕ) → place ≡ place_of W n → (H G : Table) (mid more : List ℕ) (f : ℕ) → Fills s.flat H at.tail → mid ≡ s.node_of
-          → AreItems symbols rules shapes W H mid (items_of H at.tail) (take (place - 1) (items_of W at.node)) → G ≡ with_node H j (Some at.tail) → more ≡ mid ++ n ∷ [] → f ≡ length H
+          → AreItems symbols rules shapes W H mid (items_of H at.tail) (take (place - 1) (items_of W at.node)) → IsGrown H j (Some at.tail) G → more ≡ mid ++ n ∷ [] → f ≡ length H
           → IsAttached symbols rules shapes W s.flat s.node_of s.flat_of G more at.node n f
       child_added j rule_is place place_is H G mid more f fills same h added more_is f_is =
           subst (λ z. IsAttached symbols rules shapes W s.flat s.node_of s.flat_of G more at.node z f) (sym next)
@@ -231,7 +231,7 @@ module _ (symbols : List FlatSymbol) (rules : List FlatRule) (shapes : List Shap
   left_is d r (i, e, got) = ap (λ (z : FlatRule). z.left) (ap (λ z. get_or z j d) same ∙ get_or_from_slice_get rules j r d (ap (slice_get rules) (some_same (sym is ∙ e)) ∙ got))
 
 -- the walk begins at the root
-pub first_walk : (symbols : List FlatSymbol) (rules : List FlatRule) (shapes : List Shape) (W : Table) → Suits symbols rules shapes W → length W ≤ most_nodes → (s : Draft) (j : ℕ) → rule_at W 0 ≡ Some j → s.flat ≡ with_node [] j None → IsTree s.flat
+pub first_walk : (symbols : List FlatSymbol) (rules : List FlatRule) (shapes : List Shape) (W : Table) → Suits symbols rules shapes W → length W ≤ most_nodes → (s : Draft) (j : ℕ) → rule_at W 0 ≡ Some j → IsGrown [] j None s.flat → IsTree s.flat
     → s.node_of ≡ 0 ∷ [] → s.flat_of ≡ 0 ∷ [] → IsWalk symbols rules shapes W s (record { node = 0; tail = 0; done = 0 })
 first_walk symbols rules shapes W suits few s j rule_is e tree nodes flats = record {
   suits = suits;
@@ -239,7 +239,7 @@ first_walk symbols rules shapes W suits few s j rule_is e tree nodes flats = rec
   within = let h = suits.tree.has_root in omega (arith, ap length flats);
   draft = subst (λ z. IsDraft symbols rules shapes W s.flat s.node_of z (length z) 0 0 0) (sym flats)
       (subst (λ z. IsDraft symbols rules shapes W s.flat z (0 ∷ []) 1 0 0 0) (sym nodes)
-      (first_draft symbols rules shapes W suits suits.tree.has_root s.flat j rule_is e tree (subst (λ g. IsOpen g 0) (sym e) (open_added [] j None))));
+      (first_draft symbols rules shapes W suits suits.tree.has_root s.flat j rule_is e tree (subst (λ g. IsOpen g 0) (sym e.2) (open_added [] j None e.0 e.1))));
 }
 
 module _ (W : Table) (tree : IsTree W) where

@@ -1,8 +1,8 @@
 -- The flat tree of the first nodes of a written tree, as far as it is made.
-use Rattle.std.specs.Prelude.{◌≡◌, ℕ, suc, ◌+◌, ◌*◌, ◌<◌, ◌≤◌, ◌⊎◌, Bool, true, false, List, [], ◌∷◌, ◌++◌, length, take, filter_map, Some, slice_get, Contains, IsTrue}
+use Rattle.std.specs.Prelude.{◌≡◌, ℕ, suc, ◌+◌, ◌*◌, ◌<◌, ◌≤◌, ◌⊎◌, Bool, true, false, List, [], ◌∷◌, ◌++◌, length, take, filter_map, Option, Some, slice_get, Contains, IsTrue}
 use Rattle.lido_base.specs.declared.ids.SymId.{SymId}
 use Rattle.lido_base.specs.declared.value.Value.{Value}
-use Rattle.lido_base.specs.Tree.{Tree, Item, Child, IsTree, rule_at, parent_of, place_of, items_of, item_at, children, child_number, ancestors}
+use Rattle.lido_base.specs.Tree.{Tree, Item, Child, IsTree, rule_at, parent_of, place_of, line_of, column_of, items_of, item_at, children, child_number, ancestors, with_node}
 use Rattle.flat_grammar.specs.declared.flat.FlatSymbol.{FlatSymbol}
 use Rattle.flat_grammar.specs.declared.flat.FlatRule.{FlatRule}
 use Rattle.flat_grammar.specs.declared.flat.Shape.{Shape}
@@ -20,6 +20,16 @@ Table = Tree Value
 -- the most nodes that a written tree may have
 abbrev pub most_nodes : ℕ
 most_nodes = 1048576
+
+-- the flat tree is that tree with one node more, of this rule and behind the items of this parent
+abbrev pub IsGrown : Table → ℕ → Option ℕ → Table → Type 0
+IsGrown F rule parent G = (line : ℕ) × (column : ℕ) × (G ≡ with_node F rule parent line column)
+
+-- each flat node has the line and the column of its written node, a cell those of its list
+pub record IsPlaced (W F : Table) (node_of : List ℕ) : Type 0 where
+  pub each : length node_of ≡ length F
+  pub lines : (n w : ℕ) → slice_get node_of n ≡ Some w → line_of F n ≡ line_of W w
+  pub columns : (n w : ℕ) → slice_get node_of n ≡ Some w → column_of F n ≡ column_of W w
 
 -- q is the node or one of its ancestors
 abbrev pub IsOnPath : Table → ℕ → ℕ → Type 0

@@ -1,10 +1,10 @@
 //! The flat tree of a written tree that fits the grammar.
-ghost use Rattle.std.specs.Prelude.{◌≡◌, ◌<◌, ◌≤◌, ◌+◌, ℕ, List, IfOk, IfErr, All, length};
+ghost use Rattle.std.specs.Prelude.{◌≡◌, ◌<◌, ◌≤◌, ◌+◌, ℕ, List, IfOk, OnOk, IfErr, All, length};
 ghost use Rattle.lido_base.specs.Tree.{IsTree};
 ghost use Rattle.lido_base.specs.Plain.{plain_tree};
 ghost use Rattle.flat_grammar.specs.Fitting.{IsFitting, IsWithinLimits};
 ghost use Rattle.flat_grammar.specs.FlatTrees.{IsFlatTree};
-ghost use Rattle.tree_flattener.specs.Drafts.{Suits, IsWalk, most_nodes};
+ghost use Rattle.tree_flattener.specs.Drafts.{Suits, IsPlaced, IsWalk, most_nodes};
 ghost use Rattle.tree_flattener.specs.Limits.{IsRefused};
 ghost use Rattle.tree_flattener.specs.Forms.{AreForms};
 
@@ -22,10 +22,17 @@ fn first(alloc: Global, flat: &Flat, written: &Tree) -> Result<Draft, Memory>
     requires suits { Suits flat.now.symbols flat.now.rules flat.now.shapes written.now }
     requires few { length written.now ≤ most_nodes }
     ensures walk { IfOk result (λ draft. IsWalk flat.now.symbols flat.now.rules flat.now.shapes written.now draft (record { node = 0; tail = 0; done = 0 })) }
+    ensures placed { IfOk result (λ draft. IsPlaced written.now draft.flat draft.node_of) }
     ensures one { IfOk result (λ draft. length draft.flat_of ≡ 1) }
 {
     let mut tree = Tree::new(alloc)?;
-    tree.add_node(written.rule(NodeId(0)), None)?;
+    let root = NodeId(0);
+    tree.add_node(
+        written.rule(root),
+        None,
+        written.line(root),
+        written.column(root),
+    )?;
     let node_of = Sequence::from_vec(vec![in alloc; 0]?);
     let flat_of = Sequence::from_vec(vec![in alloc; 0]?);
     Ok(Draft {
@@ -43,9 +50,11 @@ fn attach_all(
     draft: &mut Draft,
 ) -> Result<Spot, Memory>
     requires walk { IsWalk flat.now.symbols flat.now.rules flat.now.shapes written.now draft.old (record { node = 0; tail = 0; done = 0 }) }
+    requires placed { IsPlaced written.now draft.old.flat draft.old.node_of }
     requires forms { AreForms flat.now.symbols flat.now.rules flat.now.shapes forms.now }
     requires one { length draft.old.flat_of ≡ 1 }
     ensures walk { IfOk result (λ at. IsWalk flat.now.symbols flat.now.rules flat.now.shapes written.now draft.new at) }
+    ensures placed { OnOk result (IsPlaced written.now draft.new.flat draft.new.node_of) }
     ensures all { IfOk result (λ at. length draft.new.flat_of ≡ length written.now) }
 {
     let mut at = Spot {

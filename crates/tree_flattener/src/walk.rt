@@ -7,7 +7,7 @@ ghost use Rattle.flat_grammar.specs.WellFormed.{cell_of};
 ghost use Rattle.flat_grammar.specs.FlatTrees.{IsFlatTree};
 ghost use Rattle.flat_grammar.specs.declared.flat.FlatRule.{FlatRule};
 ghost use Rattle.lido_base.specs.declared.ids.RuleId.{RuleId as Id};
-ghost use Rattle.tree_flattener.specs.Drafts.{IsWalk, HasForm, IsAttached, IsClosed, IsNumbered, IsOnPath, Suits, most_nodes};
+ghost use Rattle.tree_flattener.specs.Drafts.{IsWalk, HasForm, IsAttached, IsClosed, IsNumbered, IsOnPath, IsPlaced, Suits, most_nodes};
 ghost use Rattle.tree_flattener.specs.Forms.{IsForm, AreForms, AreCellRules};
 
 use crate::draft::{Draft, Spot, add};
@@ -36,9 +36,11 @@ fn close_plain(
     width: usize,
 ) -> Result<(), Memory>
     requires walk { IsWalk flat.now.symbols flat.now.rules flat.now.shapes written.now draft.old at }
+    requires placed { IsPlaced written.now draft.old.flat draft.old.node_of }
     requires all_met { (k c : ℕ) → item_at written.now at.node k ≡ Some (Child c) → c < length draft.old.flat_of }
     requires plain { HasForm flat.now.symbols flat.now.rules flat.now.shapes written.now (λ shape. (shape.list ≡ false) × (width ≡ length shape.right)) at.node }
     ensures closed { OnOk result (IsClosed flat.now.symbols flat.now.rules flat.now.shapes written.now draft.old.flat draft.old.node_of draft.old.flat_of draft.new.flat draft.new.node_of at.node) }
+    ensures placed { OnOk result (IsPlaced written.now draft.new.flat draft.new.node_of) }
     ensures same { draft.new.flat_of ≡ draft.old.flat_of }
 {
     add_terminals(written, draft, at, width as u32)?;
@@ -54,12 +56,22 @@ fn close_list(
     cells: &Cells,
 ) -> Result<(), Memory>
     requires walk { IsWalk flat.now.symbols flat.now.rules flat.now.shapes written.now draft.old at }
+    requires placed { IsPlaced written.now draft.old.flat draft.old.node_of }
     requires all_met { (k c : ℕ) → item_at written.now at.node k ≡ Some (Child c) → c < length draft.old.flat_of }
     requires list { HasForm flat.now.symbols flat.now.rules flat.now.shapes written.now (λ shape. (shape.list ≡ true) × AreCellRules flat.now.rules (cell_of flat.now.symbols flat.now.rules shape) cells.now) at.node }
     ensures closed { OnOk result (IsClosed flat.now.symbols flat.now.rules flat.now.shapes written.now draft.old.flat draft.old.node_of draft.old.flat_of draft.new.flat draft.new.node_of at.node) }
+    ensures placed { OnOk result (IsPlaced written.now draft.new.flat draft.new.node_of) }
     ensures same { draft.new.flat_of ≡ draft.old.flat_of }
 {
-    add(draft, cells.end, at.tail, at.node)?;
+    let list = NodeId(at.node);
+    add(
+        draft,
+        cells.end,
+        at.tail,
+        at.node,
+        written.line(list),
+        written.column(list),
+    )?;
     Ok(())
 }
 
@@ -72,9 +84,11 @@ pub fn close(
     at: Spot,
 ) -> Result<(), Memory>
     requires walk { IsWalk flat.now.symbols flat.now.rules flat.now.shapes written.now draft.old at }
+    requires placed { IsPlaced written.now draft.old.flat draft.old.node_of }
     requires all_met { (k c : ℕ) → item_at written.now at.node k ≡ Some (Child c) → c < length draft.old.flat_of }
     requires forms { AreForms flat.now.symbols flat.now.rules flat.now.shapes forms.now }
     ensures closed { OnOk result (IsClosed flat.now.symbols flat.now.rules flat.now.shapes written.now draft.old.flat draft.old.node_of draft.old.flat_of draft.new.flat draft.new.node_of at.node) }
+    ensures placed { OnOk result (IsPlaced written.now draft.new.flat draft.new.node_of) }
     ensures same { draft.new.flat_of ≡ draft.old.flat_of }
 {
     match form_at(flat, forms, written, at.node) {
@@ -117,10 +131,12 @@ fn go_up(
     at: Spot,
 ) -> Result<Spot, Memory>
     requires walk { IsWalk flat.now.symbols flat.now.rules flat.now.shapes written.now draft.old at }
+    requires placed { IsPlaced written.now draft.old.flat draft.old.node_of }
     requires all_met { (k c : ℕ) → item_at written.now at.node k ≡ Some (Child c) → c < length draft.old.flat_of }
     requires forms { AreForms flat.now.symbols flat.now.rules flat.now.shapes forms.now }
     requires inner { 0 < at.node }
     ensures walk { IfOk result (λ next. IsWalk flat.now.symbols flat.now.rules flat.now.shapes written.now draft.new next) }
+    ensures placed { OnOk result (IsPlaced written.now draft.new.flat draft.new.node_of) }
     ensures parent { IfOk result (λ next. parent_of written.now at.node ≡ Some next.node) }
     ensures same { draft.new.flat_of ≡ draft.old.flat_of }
 {
@@ -138,11 +154,13 @@ pub fn climb(
     to: u32,
 ) -> Result<Spot, Memory>
     requires walk { IsWalk flat.now.symbols flat.now.rules flat.now.shapes written.now draft.old from }
+    requires placed { IsPlaced written.now draft.old.flat draft.old.node_of }
     requires forms { AreForms flat.now.symbols flat.now.rules flat.now.shapes forms.now }
     requires around { IsOnPath written.now from.node to }
     requires all_met { (m : ℕ) → IsOnPath written.now from.node m → Contains (ancestors written.now m) to
         → (k c : ℕ) → item_at written.now m k ≡ Some (Child c) → c < length draft.old.flat_of }
     ensures walk { IfOk result (λ at. IsWalk flat.now.symbols flat.now.rules flat.now.shapes written.now draft.new at) }
+    ensures placed { OnOk result (IsPlaced written.now draft.new.flat draft.new.node_of) }
     ensures at { IfOk result (λ at. at.node ≡ to) }
     ensures same { draft.new.flat_of ≡ draft.old.flat_of }
 {
@@ -184,17 +202,23 @@ fn attach_element(
     n: u32,
 ) -> Result<u32, Memory>
     requires walk { IsWalk flat.now.symbols flat.now.rules flat.now.shapes written.now draft.old at }
+    requires placed { IsPlaced written.now draft.old.flat draft.old.node_of }
     requires list { HasForm flat.now.symbols flat.now.rules flat.now.shapes written.now (λ shape. (shape.list ≡ true) × AreCellRules flat.now.rules (cell_of flat.now.symbols flat.now.rules shape) cells.now) at.node }
     requires next { n ≡ length draft.old.flat_of }
     requires child { parent_of written.now n ≡ Some at.node }
     ensures attached { IfOk result (λ f. IsAttached flat.now.symbols flat.now.rules flat.now.shapes written.now draft.old.flat draft.old.node_of draft.old.flat_of draft.new.flat draft.new.node_of at.node n f) }
+    ensures placed { OnOk result (IsPlaced written.now draft.new.flat draft.new.node_of) }
     ensures same { draft.new.flat_of ≡ draft.old.flat_of }
 {
     let Some(rule) = element_rule(cells, symbol_of(flat, written, n)) else {
         unreachable!();
     };
-    let cell = add(draft, rule, at.tail, at.node)?;
-    let number = add(draft, written.rule(NodeId(n)), cell, n)?;
+    let list = NodeId(at.node);
+    let (line, column) = (written.line(list), written.column(list));
+    let cell = add(draft, rule, at.tail, at.node, line, column)?;
+    let element = NodeId(n);
+    let (line, column) = (written.line(element), written.column(element));
+    let number = add(draft, written.rule(element), cell, n, line, column)?;
     Ok(number)
 }
 
@@ -207,15 +231,19 @@ fn attach_child(
     n: u32,
 ) -> Result<u32, Memory>
     requires walk { IsWalk flat.now.symbols flat.now.rules flat.now.shapes written.now draft.old at }
+    requires placed { IsPlaced written.now draft.old.flat draft.old.node_of }
     requires plain { HasForm flat.now.symbols flat.now.rules flat.now.shapes written.now (λ shape. shape.list ≡ false) at.node }
     requires next { n ≡ length draft.old.flat_of }
     requires child { parent_of written.now n ≡ Some at.node }
     ensures attached { IfOk result (λ f. IsAttached flat.now.symbols flat.now.rules flat.now.shapes written.now draft.old.flat draft.old.node_of draft.old.flat_of draft.new.flat draft.new.node_of at.node n f) }
+    ensures placed { OnOk result (IsPlaced written.now draft.new.flat draft.new.node_of) }
     ensures same { draft.new.flat_of ≡ draft.old.flat_of }
 {
-    let place = written.place(NodeId(n));
+    let child = NodeId(n);
+    let place = written.place(child);
     add_terminals(written, draft, at, place - 1)?;
-    let number = add(draft, written.rule(NodeId(n)), at.tail, n)?;
+    let (line, column) = (written.line(child), written.column(child));
+    let number = add(draft, written.rule(child), at.tail, n, line, column)?;
     Ok(number)
 }
 
@@ -229,10 +257,12 @@ fn attach(
     n: u32,
 ) -> Result<u32, Memory>
     requires walk { IsWalk flat.now.symbols flat.now.rules flat.now.shapes written.now draft.old at }
+    requires placed { IsPlaced written.now draft.old.flat draft.old.node_of }
     requires forms { AreForms flat.now.symbols flat.now.rules flat.now.shapes forms.now }
     requires next { n ≡ length draft.old.flat_of }
     requires child { parent_of written.now n ≡ Some at.node }
     ensures attached { IfOk result (λ f. IsAttached flat.now.symbols flat.now.rules flat.now.shapes written.now draft.old.flat draft.old.node_of draft.old.flat_of draft.new.flat draft.new.node_of at.node n f) }
+    ensures placed { OnOk result (IsPlaced written.now draft.new.flat draft.new.node_of) }
     ensures same { draft.new.flat_of ≡ draft.old.flat_of }
 {
     match form_at(flat, forms, written, at.node) {
@@ -252,10 +282,12 @@ pub fn go_down(
     n: u32,
 ) -> Result<Spot, Memory>
     requires walk { IsWalk flat.now.symbols flat.now.rules flat.now.shapes written.now draft.old at }
+    requires placed { IsPlaced written.now draft.old.flat draft.old.node_of }
     requires forms { AreForms flat.now.symbols flat.now.rules flat.now.shapes forms.now }
     requires next { n ≡ length draft.old.flat_of }
     requires child { parent_of written.now n ≡ Some at.node }
     ensures walk { IfOk result (λ next. IsWalk flat.now.symbols flat.now.rules flat.now.shapes written.now draft.new next) }
+    ensures placed { OnOk result (IsPlaced written.now draft.new.flat draft.new.node_of) }
     ensures at { IfOk result (λ next. next.node ≡ n) }
     ensures more { OnOk result (length draft.new.flat_of ≡ n + 1) }
 {

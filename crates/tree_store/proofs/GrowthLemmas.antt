@@ -135,12 +135,12 @@ IsStrictlyIncreasing-push xs y rises below = λ k h. go k h (cases_lt (k + 1) (l
         rw (get_or_append_left xs (y ∷ []) 0 k (omega arith), get_or_push xs y 0 (k + 1) here) r
 
 -- a node of this rule and below p is added
-module _ {V : Type 0} (t : Tree V) (tree : IsTree t) (rule p : ℕ) (open_p : IsOpen t p) where
+module _ {V : Type 0} (t : Tree V) (tree : IsTree t) (rule p line column : ℕ) (open_p : IsOpen t p) where
   abbrev pub with_child : Tree V
   with_child = with_item t p (Child (length t))
 
   abbrev pub added : Node V
-  added = record { rule = rule; parent = Some p; place = places t p + 1; items = [] }
+  added = record { rule = rule; parent = Some p; place = places t p + 1; line = line; column = column; items = [] }
 
   abbrev pub grown : Tree V
   grown = with_child ++ added ∷ []
@@ -284,7 +284,7 @@ module _ {V : Type 0} (t : Tree V) (tree : IsTree t) (rule p : ℕ) (open_p : Is
       go (inr other) = places_agree_old n k c (ap (λ items. slice_get items k) (sym (items_of-other n other.1)) ∙ e)
 
   -- a tree stays one where a node is added below an open node
-  pub IsTree-with_node : IsTree (with_node t rule (Some p))
+  pub IsTree-with_node : IsTree (with_node t rule (Some p) line column)
   IsTree-with_node = record {
     has_root = omega (arith, length-grown);
     root_first = parent_of-grown 0 tree.has_root ∙ tree.root_first;
@@ -295,9 +295,9 @@ module _ {V : Type 0} (t : Tree V) (tree : IsTree t) (rule p : ℕ) (open_p : Is
     places_agree = places_agree_grown;
   }
 
-module _ (V : Type 0) (rule : ℕ) where
+module _ (V : Type 0) (rule line column : ℕ) where
   abbrev first : Tree V
-  first = with_node [] rule None
+  first = with_node [] rule None line column
 
   agrees_first : (n c : ℕ) → contains c (children first n) ≡ (nat_lt c 1 && is_just n (parent_of first c))
   agrees_first zero zero = refl
@@ -314,15 +314,15 @@ module _ (V : Type 0) (rule : ℕ) where
   places_first (suc n) k c e = cc
 
 -- the first node alone is a tree
-pub IsTree-first : {V : Type 0} (rule : ℕ) → IsTree (with_node {V = V} [] rule None)
-IsTree-first {V = V} rule = record {
+pub IsTree-first : {V : Type 0} (rule line column : ℕ) → IsTree (with_node {V = V} [] rule None line column)
+IsTree-first {V = V} rule line column = record {
   has_root = omega arith;
   root_first = refl;
   root_place = refl;
   in_preorder = λ n h. absurd (omega arith);
-  items_agree = agrees_first V rule;
-  children_ascend = ascend_first V rule;
-  places_agree = places_first V rule;
+  items_agree = agrees_first V rule line column;
+  children_ascend = ascend_first V rule line column;
+  places_agree = places_first V rule line column;
 }
 
 -- a terminal is added to an open node
@@ -383,15 +383,15 @@ pub open_in : {V : Type 0} (t : Tree V) → IsEmptyOrTree t → (p : ℕ) → Is
 open_in t tree p (last, e, way) = open_inside t (tree (omega arith)) p (last, e, way)
 
 -- a tree with one node more where it can stand
-pub IsTree-grown : {V : Type 0} (t : Tree V) → IsEmptyOrTree t → (rule : ℕ) (parent : Option ℕ) → IsNext t parent → IsTree (with_node t rule parent)
-IsTree-grown t tree rule None e = rw e (IsTree-first rule)
-IsTree-grown t tree rule (Some p) (last, e, way) = IsTree-with_node t (tree (omega arith)) rule p (last, e, way)
+pub IsTree-grown : {V : Type 0} (t : Tree V) → IsEmptyOrTree t → (rule : ℕ) (parent : Option ℕ) (line column : ℕ) → IsNext t parent → IsTree (with_node t rule parent line column)
+IsTree-grown t tree rule None line column e = rw e (IsTree-first rule line column)
+IsTree-grown t tree rule (Some p) line column (last, e, way) = IsTree-with_node t (tree (omega arith)) rule p line column (last, e, way)
 
 -- a tree with one terminal more at an open node
 pub IsTree-leaf : {V : Type 0} (t : Tree V) → IsEmptyOrTree t → (p : ℕ) (v : V) → IsOpen t p → IsTree (with_item t p (Leaf v))
 IsTree-leaf t tree p v (last, e, way) = let there : IsTree t = tree (omega arith) in IsTree-with_leaf t there p v (open_inside t there p (last, e, way))
 
 -- a node that is added is one node more
-pub length-with_node : {V : Type 0} (t : Tree V) (rule : ℕ) (parent : Option ℕ) → length (with_node t rule parent) ≡ length t + 1
-length-with_node t rule None = length-append t _
-length-with_node t rule (Some p) = length-append (with_item t p (Child (length t))) _ ∙ ap (λ n. n + 1) (length-with_item t p (Child (length t)))
+pub length-with_node : {V : Type 0} (t : Tree V) (rule : ℕ) (parent : Option ℕ) (line column : ℕ) → length (with_node t rule parent line column) ≡ length t + 1
+length-with_node t rule None line column = length-append t _
+length-with_node t rule (Some p) line column = length-append (with_item t p (Child (length t))) _ ∙ ap (λ n. n + 1) (length-with_item t p (Child (length t)))

@@ -2,4 +2,3 @@ pub mod GrowthLemmas
 pub mod OpenLemmas
 pub mod ReadingLemmas
 pub mod StoredLemmas
-pub mod TestLemmas

@@ -59,12 +59,12 @@ module _ {V : Type 0} (t : Tree V) (tree : IsTree t) where
       go zero e h = absurd (omega arith)
       go (suc last) e h = (last, e, root_above last last (omega arith) (omega arith))
 
-  pub open_parent : (rule p : ℕ) → IsOpen t p → IsOpen (with_node t rule (Some p)) p
-  open_parent rule p open_p = (
+  pub open_parent : (rule p line column : ℕ) → IsOpen t p → IsOpen (with_node t rule (Some p) line column) p
+  open_parent rule p line column open_p = (
     length t,
-    length-with_node t rule (Some p) ∙ add-one (length t),
+    length-with_node t rule (Some p) line column ∙ add-one (length t),
     inr
-        (subst (λ above. Contains above p) (sym (ancestors-child (with_node t rule (Some p)) (IsTree-with_node t tree rule p open_p) (length t) p (parent_of_last (with_item t p (Child (length t))) _ (length t) (sym (length-with_item t p (Child (length t))))))) (0, (omega arith), refl)),
+        (subst (λ above. Contains above p) (sym (ancestors-child (with_node t rule (Some p) line column) (IsTree-with_node t tree rule p line column open_p) (length t) p (parent_of_last (with_item t p (Child (length t))) _ (length t) (sym (length-with_item t p (Child (length t))))))) (0, (omega arith), refl)),
   )
 
   pub open_kept : (p q : ℕ) (v : V) → IsOpen t q → IsOpen (with_item t p (Leaf v)) q
@@ -81,35 +81,35 @@ items_past (node ∷ t) zero h = absurd (omega arith)
 items_past (node ∷ t) (suc n) h = items_past t n (omega arith)
 
 module _ {V : Type 0} (t : Tree V) where
-  pub open_added : (rule : ℕ) (parent : Option ℕ) → IsOpen (with_node t rule parent) (length t)
-  open_added rule parent = (length t, length-with_node t rule parent ∙ add-one (length t), inl refl)
+  pub open_added : (rule : ℕ) (parent : Option ℕ) (line column : ℕ) → IsOpen (with_node t rule parent line column) (length t)
+  open_added rule parent line column = (length t, length-with_node t rule parent line column ∙ add-one (length t), inl refl)
 
   -- nothing changes at the nodes that stand there
-  pub parent_kept : (rule p n : ℕ) → n < length t → parent_of (with_node t rule (Some p)) n ≡ parent_of t n
-  parent_kept rule p n h = parent_of_before (with_item t p (Child (length t))) _ n (omega (arith, length-with_item t p (Child (length t)))) ∙ parent_of-with_item t p (Child (length t)) n
+  pub parent_kept : (rule p line column n : ℕ) → n < length t → parent_of (with_node t rule (Some p) line column) n ≡ parent_of t n
+  parent_kept rule p line column n h = parent_of_before (with_item t p (Child (length t))) _ n (omega (arith, length-with_item t p (Child (length t)))) ∙ parent_of-with_item t p (Child (length t)) n
 
-  pub ancestors_kept : (rule p n : ℕ) → IsTree t → n < length t → ancestors (with_node t rule (Some p)) n ≡ ancestors t n
-  ancestors_kept rule p n tree h = ancestors_same (with_node t rule (Some p)) t tree (parent_kept rule p) n h
+  pub ancestors_kept : (rule p line column n : ℕ) → IsTree t → n < length t → ancestors (with_node t rule (Some p) line column) n ≡ ancestors t n
+  ancestors_kept rule p line column n tree h = ancestors_same (with_node t rule (Some p) line column) t tree (parent_kept rule p line column) n h
 
-  pub item_kept : (rule p n place : ℕ) (x : Item V) → item_at t n place ≡ Some x → item_at (with_node t rule (Some p)) n place ≡ Some x
-  item_kept rule p n zero x e = cc
-  item_kept rule p n (suc k) x e = ap (λ items. slice_get items k) (items_of-append (with_item t p (Child (length t))) _ refl n) ∙ item_below t p (Child (length t)) n k x e
+  pub item_kept : (rule p line column n place : ℕ) (x : Item V) → item_at t n place ≡ Some x → item_at (with_node t rule (Some p) line column) n place ≡ Some x
+  item_kept rule p line column n zero x e = cc
+  item_kept rule p line column n (suc k) x e = ap (λ items. slice_get items k) (items_of-append (with_item t p (Child (length t))) _ refl n) ∙ item_below t p (Child (length t)) n k x e
 
-  module _ (tree : IsTree t) (rule p : ℕ) (open_p : IsOpen t p) where
+  module _ (tree : IsTree t) (rule p line column : ℕ) (open_p : IsOpen t p) where
     -- the parent of the node that is added has one item more, the node
-    pub places_more : places (with_node t rule (Some p)) p ≡ places t p + 1
-    places_more = ap length (items_of-parent t tree rule p open_p) ∙ length-append (items_of t p) (Child (length t) ∷ [])
+    pub places_more : places (with_node t rule (Some p) line column) p ≡ places t p + 1
+    places_more = ap length (items_of-parent t tree rule p line column open_p) ∙ length-append (items_of t p) (Child (length t) ∷ [])
 
-    pub node_there : IsNode (with_node t rule (Some p)) p (places t p + 1)
-    node_there = (length t, ap (item_at (with_node t rule (Some p)) p) (add-one (places t p)) ∙ ap (λ items. slice_get items (places t p)) (items_of-parent t tree rule p open_p) ∙ get_last (items_of t p) (Child (length t)) (places t p) refl)
+    pub node_there : IsNode (with_node t rule (Some p) line column) p (places t p + 1)
+    node_there = (length t, ap (item_at (with_node t rule (Some p) line column) p) (add-one (places t p)) ∙ ap (λ items. slice_get items (places t p)) (items_of-parent t tree rule p line column open_p) ∙ get_last (items_of t p) (Child (length t)) (places t p) refl)
 
     -- another node has as many as before
-    pub places_kept : (n : ℕ) → (p ≡ n → ⊥) → places (with_node t rule (Some p)) n ≡ places t n
-    places_kept n other = ap length (items_of-other t tree rule p open_p n other)
+    pub places_kept : (n : ℕ) → (p ≡ n → ⊥) → places (with_node t rule (Some p) line column) n ≡ places t n
+    places_kept n other = ap length (items_of-other t tree rule p line column open_p n other)
 
     -- the node that is added has none
-    pub places_none : places (with_node t rule (Some p)) (length t) ≡ 0
+    pub places_none : places (with_node t rule (Some p) line column) (length t) ≡ 0
     places_none = places_kept (length t) (λ e. let b = open_inside t tree p open_p in omega arith) ∙ ap length (items_past t (length t) (omega arith))
 
-  pub node_kept : (rule p n place : ℕ) → IsNode t n place → IsNode (with_node t rule (Some p)) n place
-  node_kept rule p n place (c, e) = (c, item_kept rule p n place (Child c) e)
+  pub node_kept : (rule p line column n place : ℕ) → IsNode t n place → IsNode (with_node t rule (Some p) line column) n place
+  node_kept rule p line column n place (c, e) = (c, item_kept rule p line column n place (Child c) e)

@@ -89,25 +89,25 @@ pub next_inside : (xs : List StoredNode) (t : Tree Value) → table xs ≡ t →
 next_inside xs t view tree o p e next = let h = open_in (table xs) tree p.0 (rw view (subst (λ z. IsNext t (number_of z)) e next)) in omega (arith, length-table xs)
 
 -- a node is pushed, with its number among the items of its parent
-pub push_below : (xs ys zs : List StoredNode) (t : Tree Value) (rule : RuleId) (o : Option NodeId) (p number : NodeId) (node : StoredNode) → table xs ≡ t → o ≡ Some p
+pub push_below : (xs ys zs : List StoredNode) (t : Tree Value) (rule : RuleId) (line column : ℕ) (o : Option NodeId) (p number : NodeId) (node : StoredNode) → table xs ≡ t → o ≡ Some p
     → table ys ≡ with_item (table xs) p.0 (Child number.0) → zs ≡ ys ++ node ∷ [] → number.0 ≡ length xs
-    → node.rule ≡ rule → node.parent ≡ Some p → node.place ≡ places (table xs) p.0 + 1 → node.items.items ≡ []
-    → table zs ≡ with_node t rule.0 (number_of o)
-push_below xs ys zs t rule o p number node view e below pushed last rule_is parent_is place_is items_is =
+    → node.rule ≡ rule → node.parent ≡ Some p → node.place ≡ places (table xs) p.0 + 1 → node.line ≡ line → node.column ≡ column → node.items.items ≡ []
+    → table zs ≡ with_node t rule.0 (number_of o) line column
+push_below xs ys zs t rule line column o p number node view e below pushed last rule_is parent_is place_is line_is column_is items_is =
     ap table pushed ∙ map_push node_of ys node ∙ ap (λ z. z ++ node_of node ∷ []) (below ∙ ap (λ n. with_item (table xs) p.0 (Child n)) (last ∙ sym (length-table xs)))
-    ∙ ap (λ z. with_item (table xs) p.0 (Child (length (table xs))) ++ z ∷ []) same ∙ ap (λ z. with_node z rule.0 (Some p.0)) view ∙ ap (λ z. with_node t rule.0 (number_of z)) (sym e)
+    ∙ ap (λ z. with_item (table xs) p.0 (Child (length (table xs))) ++ z ∷ []) same ∙ ap (λ z. with_node z rule.0 (Some p.0) line column) view ∙ ap (λ z. with_node t rule.0 (number_of z) line column) (sym e)
   where
-    same : node_of node ≡ record { rule = rule.0; parent = Some p.0; place = places (table xs) p.0 + 1; items = [] }
-    same = rw (rule_is, parent_is, place_is, items_is) refl
+    same : node_of node ≡ record { rule = rule.0; parent = Some p.0; place = places (table xs) p.0 + 1; line = line; column = column; items = [] }
+    same = rw (rule_is, parent_is, place_is, line_is, column_is, items_is) refl
 
 -- the first node is pushed
-pub push_first : (xs ys : List StoredNode) (t : Tree Value) (rule : RuleId) (o : Option NodeId) (node : StoredNode) → table xs ≡ t → o ≡ None
-    → ys ≡ xs ++ node ∷ [] → node.rule ≡ rule → node.parent ≡ None → node.place ≡ 0 → node.items.items ≡ [] → table ys ≡ with_node t rule.0 (number_of o)
-push_first xs ys t rule o node view e pushed rule_is parent_is place_is items_is =
-    ap table pushed ∙ map_push node_of xs node ∙ ap (λ z. table xs ++ z ∷ []) same ∙ ap (λ z. with_node z rule.0 None) view ∙ ap (λ z. with_node t rule.0 (number_of z)) (sym e)
+pub push_first : (xs ys : List StoredNode) (t : Tree Value) (rule : RuleId) (line column : ℕ) (o : Option NodeId) (node : StoredNode) → table xs ≡ t → o ≡ None
+    → ys ≡ xs ++ node ∷ [] → node.rule ≡ rule → node.parent ≡ None → node.place ≡ 0 → node.line ≡ line → node.column ≡ column → node.items.items ≡ [] → table ys ≡ with_node t rule.0 (number_of o) line column
+push_first xs ys t rule line column o node view e pushed rule_is parent_is place_is line_is column_is items_is =
+    ap table pushed ∙ map_push node_of xs node ∙ ap (λ z. table xs ++ z ∷ []) same ∙ ap (λ z. with_node z rule.0 None line column) view ∙ ap (λ z. with_node t rule.0 (number_of z) line column) (sym e)
   where
-    same : node_of node ≡ record { rule = rule.0; parent = None; place = 0; items = [] }
-    same = rw (rule_is, parent_is, place_is, items_is) refl
+    same : node_of node ≡ record { rule = rule.0; parent = None; place = 0; line = line; column = column; items = [] }
+    same = rw (rule_is, parent_is, place_is, line_is, column_is, items_is) refl
 
 module _ (t : Tree Value) (tree : IsEmptyOrTree t) (n : ℕ) (inside : n < length t) where
   there : IsTree t

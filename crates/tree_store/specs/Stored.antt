@@ -16,7 +16,7 @@ item_of (Node n) = tree.Child n.0
 item_of (Terminal v) = tree.Leaf v
 
 abbrev pub node_of : StoredNode → tree.Node Value
-node_of s = record { rule = s.rule.0; parent = number_of s.parent; place = s.place; items = map item_of s.items.items }
+node_of s = record { rule = s.rule.0; parent = number_of s.parent; place = s.place; line = s.line; column = s.column; items = map item_of s.items.items }
 
 -- The table of stored nodes, as a table of nodes.
 abbrev pub table : List StoredNode → tree.Tree Value

@@ -1,4 +1,7 @@
 //! What can be wrong with the text of a tree.
+ghost use Rattle.std.specs.Prelude.{◌≡◌};
+ghost use Rattle.tree_store.specs.declared.fault.TreeFault.TheVariants.{Memory as NoMemory};
+
 use lido_base::{Many, Memory};
 
 /// Why a text gives no tree. Places are byte offsets into the tree's text, from 0.
@@ -19,6 +22,8 @@ pub enum TreeFault {
 }
 
 impl From<Memory> for TreeFault {
+    ghost from_gives = { λ _ e. e ≡ NoMemory };
+
     fn from(_: Memory) -> Self {
         TreeFault::Memory
     }

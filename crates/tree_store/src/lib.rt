@@ -9,6 +9,3 @@ mod trees;
 pub use fault::TreeFault;
 pub use tree::Tree;
 pub use trees::{Split, Trees};
-
-#[cfg(test)]
-mod tests;

@@ -1,7 +1,7 @@
 //! The table of a tree's nodes.
 ghost use Rattle.std.specs.Prelude.{◌≡◌, ◌+◌, ◌-◌, ◌<◌, ◌≤◌, ◌^◌, ◌↔◌, [], ◌∷◌, ◌++◌, length, IsNone, IsSome, IfSome, IfOk, OnOk, OnErr, Some, slice_get, vec_len, vec_capacity};
 ghost use Rattle.std.specs.Option.{ForSome};
-ghost use Rattle.lido_base.specs.Tree.{rule_at, parent_of, place_of, places, item_at, with_item, with_node, IsNode, IsTree, Child, Leaf};
+ghost use Rattle.lido_base.specs.Tree.{rule_at, parent_of, place_of, line_of, column_of, places, item_at, with_item, with_node, IsNode, IsTree, Child, Leaf};
 ghost use Rattle.tree_store.specs.Growth.{IsOpen, IsNext, IsTerminal};
 ghost use Rattle.tree_store.specs.Stored.{item_of, number_of, table};
 
@@ -16,12 +16,14 @@ enum StoredItem {
     Terminal(Value),
 }
 
-/// A node with its place among its parent's items, from 1 and 0 at the root, and with its own items.
+/// A node with its place among its parent's items, from 1 and 0 at the root, its line and column, and its own items.
 #[derive(Debug, Drop)]
 struct StoredNode {
     items: Vec<StoredItem>,
     parent: Option<NodeId>,
     place: u32,
+    line: u32,
+    column: u32,
     rule: RuleId,
 }
 
@@ -73,15 +75,21 @@ impl Tree {
         })
     }
 
-    /// Adds a node with this rule, behind the items of its parent, and gives its number: how many nodes there were. The
-    /// first node has no parent; the parent of a later one is the node added last or one of its ancestors. `Err` is want of
-    /// memory, and the tree is then as before.
-    pub fn add_node(&mut self, rule: RuleId, parent: Option<NodeId>) -> Result<NodeId, Memory>
+    /// Adds a node with this rule, line and column, behind the items of its parent, and gives its number: how many nodes
+    /// there were. The first node has no parent; the parent of a later one is the node added last or one of its ancestors.
+    /// `Err` is want of memory, and the tree is then as before.
+    pub fn add_node(
+        &mut self,
+        rule: RuleId,
+        parent: Option<NodeId>,
+        line: u32,
+        column: u32,
+    ) -> Result<NodeId, Memory>
         requires few_nodes { length self.old < 2 ^ 32 - 1 }
         requires in_preorder { IsNext self.old (number_of parent) }
         requires few_items { ForSome parent (λ p. places self.old p.0 < 2 ^ 32 - 1) }
         ensures number { IfOk result (λ n. n.0 ≡ length self.old) }
-        ensures added { OnOk result (self.new ≡ with_node self.old rule.0 (number_of parent)) }
+        ensures added { OnOk result (self.new ≡ with_node self.old rule.0 (number_of parent) line column) }
         ensures tree { OnOk result (IsTree self.new) }
         ensures refused { OnErr result (self.new ≡ self.old) }
     {
@@ -95,6 +103,8 @@ impl Tree {
             items: Vec::new(*self.nodes.allocator()),
             parent,
             place,
+            line,
+            column,
             rule,
         });
         Ok(number)
@@ -146,6 +156,22 @@ impl Tree {
         ensures root { (result ≡ 0) ↔ (n.0 ≡ 0) }
     {
         self.nodes[n.0 as usize].place
+    }
+
+    /// The line of a node.
+    pub fn line(&self, n: NodeId) -> u32
+        requires { n.0 < length self.now }
+        ensures { result ≡ line_of self.now n.0 }
+    {
+        self.nodes[n.0 as usize].line
+    }
+
+    /// The column of a node.
+    pub fn column(&self, n: NodeId) -> u32
+        requires { n.0 < length self.now }
+        ensures { result ≡ column_of self.now n.0 }
+    {
+        self.nodes[n.0 as usize].column
     }
 
     /// The child node at a place of a node, which counts from 1. It stands behind the node.

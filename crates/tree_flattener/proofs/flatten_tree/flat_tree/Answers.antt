@@ -23,7 +23,7 @@ pub close-requires-clause-all_met : goal.close-requires-clause-all_met
 close-requires-clause-all_met c = λ k d at. let h = child_inside c.args.written.now c.requires.suits.tree c.in_ok-root.root.node k d at in omega (arith, c.in_ok-last.ensures.all, ap length c.climb.ensures.same)
 
 pub returns-clause-flat : goal.returns-clause-flat
-returns-clause-flat c = flat_tree_closed c.args.flat.now.symbols c.args.flat.now.rules c.args.flat.now.shapes c.args.written.now c.climb.new.draft c.in_ok-root.root c.in_ok-root.ensures.walk c.close.new.draft.flat c.close.new.draft.node_of c.in_ok-close.ensures.closed c.in_ok-root.ensures.at (ap length c.climb.ensures.same ∙ c.in_ok-last.ensures.all)
+returns-clause-flat c = flat_tree_closed c.args.flat.now.symbols c.args.flat.now.rules c.args.flat.now.shapes c.args.written.now c.climb.new.draft c.in_ok-root.root c.in_ok-root.ensures.walk c.close.new.draft.flat c.close.new.draft.node_of c.in_ok-close.ensures.closed c.in_ok-close.ensures.placed c.in_ok-root.ensures.at (ap length c.climb.ensures.same ∙ c.in_ok-last.ensures.all)
 
 pub returns-clause-inside : goal.returns-clause-inside
 returns-clause-inside c = all_inside c.args.flat.now.symbols c.args.flat.now.rules c.args.flat.now.shapes c.args.written.now c.close.new.draft.flat c.close.new.draft.node_of c.climb.new.draft.flat_of

@@ -32,4 +32,13 @@ returns-clause-attached c =
     let s = c.args.draft.now in
     child_added c.args.flat.now.symbols c.args.flat.now.rules c.args.flat.now.shapes c.args.written.now c.args.draft.now c.args.at c.requires.walk c.args.n c.requires.next c.requires.child c.requires.plain c.rule.result.0 c.rule.ensures c.place-place.result c.place-place.ensures.place c.add_terminals.new.draft.flat c.add.new.draft.flat c.add_terminals.new.draft.node_of c.add.new.draft.node_of c.in_ok-number.number
     c.in_ok-add_terminals.ensures.filled c.add_terminals.ensures.nodes (c.in_ok-add_terminals.ensures.items flat.symbols flat.rules flat.shapes (items_of_tail flat.symbols flat.rules flat.shapes c.args.written.now c.requires.walk.suits s.flat s.node_of s.flat_of (length s.flat_of) c.args.at.node c.args.at.tail c.args.at.done c.requires.walk.draft c.requires.walk.within c.requires.plain))
-    c.in_ok-number.ensures.added c.in_ok-number.ensures.nodes c.in_ok-number.ensures.number
+    (_, _, c.in_ok-number.ensures.added) c.in_ok-number.ensures.nodes c.in_ok-number.ensures.number
+
+pub line-line-requires : goal.line-line-requires
+line-line-requires c = next_inside c.args.flat.now.symbols c.args.flat.now.rules c.args.flat.now.shapes c.args.written.now c.args.draft.now c.args.at c.requires.walk c.args.n c.requires.next c.requires.child
+
+pub column-column-requires : goal.column-column-requires
+column-column-requires c = next_inside c.args.flat.now.symbols c.args.flat.now.rules c.args.flat.now.shapes c.args.written.now c.args.draft.now c.args.at c.requires.walk c.args.n c.requires.next c.requires.child
+
+pub returns-clause-placed : goal.returns-clause-placed
+returns-clause-placed c = c.in_ok-number.ensures.placed c.args.written.now c.in_ok-add_terminals.ensures.placed c.line-line.ensures c.column-column.ensures

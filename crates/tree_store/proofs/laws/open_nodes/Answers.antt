@@ -12,10 +12,10 @@ pub returns-clause-upwards : goal.returns-clause-upwards
 returns-clause-upwards g c = λ t p q tree next up. open_upwards t tree p q next up
 
 pub returns-clause-added : goal.returns-clause-added
-returns-clause-added g c = λ t rule parent. open_added t rule parent
+returns-clause-added g c = λ t rule parent line column. open_added t rule parent line column
 
 pub returns-clause-parent : goal.returns-clause-parent
-returns-clause-parent g c = λ t rule p tree next. open_parent t tree rule p next
+returns-clause-parent g c = λ t rule p line column tree next. open_parent t tree rule p line column next
 
 pub returns-clause-terminal : goal.returns-clause-terminal
 returns-clause-terminal g c = λ t p q v tree next. open_kept t tree p q v next

@@ -1,6 +1,6 @@
 -- How a reader of a phrase is made of readers of its parts.
-use Rattle.std.specs.Prelude.{◌≡◌, ℕ, Bool, true, false, IsTrue, ◌⊎◌, List, [], ◌∷◌, ◌++◌, refl}
-use Rattle.std.proofs.Common.{sym, ◌∙◌, ap, subst, inl, inr, append_assoc, append-nil, ◌+◌, ◌<◌, suc, zero, take, length, length-append, add-one, arith}
+use Rattle.std.specs.Prelude.{◌≡◌, Bool, ◌⊎◌, List, [], ◌∷◌, ◌++◌, refl}
+use Rattle.std.proofs.Common.{sym, ◌∙◌, ap, subst, inl, inr, append_assoc, append-nil, ◌+◌, ◌<◌, take, length, length-append, add-one, arith}
 use Rattle.lido_base.specs.Reading.{SameHead, GoesOn, Finds, Refuses, Begins, IsFaultPlace, Leads, nothing}
 
 same_after : {T : Type 0} (front rest vs : List T) → SameHead rest vs → SameHead (front ++ rest) (front ++ vs)

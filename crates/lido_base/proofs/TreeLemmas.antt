@@ -2,6 +2,7 @@
 use Rattle.std.specs.Prelude.{Contains, Bool, true, false, IsTrue, ◌||◌, ◌&&◌, nat_eq, nat_lt}
 use Rattle.std.proofs.Common.{◌≡◌, ℕ, zero, suc, ◌+◌, ◌-◌, ◌<◌, ◌≤◌, ◌⊎◌, inl, inr, List, [], ◌∷◌, length, Option, Some, None, refl, arith, ap, sym, ◌∙◌, add-one, eqb-true, eq-eqb, ltb-true}
 use Rattle.lido_base.specs.Tree.{Tree, unroll, children, parent_of, and_above, ancestors, from_children, contains, continues, is_just, AsksBelow, IsTree}
+pub use Rattle.lido_base.proofs.Lists.{contains-cons}
 
 -- each child stands behind its parent and in the table
 abbrev pub ChildrenBehind : {V : Type 0} → Tree V → Type 0
@@ -26,10 +27,6 @@ module _ {V X : Type 0} (t : Tree V) (nothing : X) (step : (ℕ → X) → ℕ �
       go : (k n : ℕ) → n < length t → length t ≤ k + n → f n ≡ from_children t nothing step n
       go zero n h e = absurd (omega arith)
       go (suc k) n h e = is_step n h ∙ asks n _ _ (λ c m. let d = behind n c m in go k c d.1 (omega arith)) ∙ sym (from_children-step n h)
-
-pub contains-cons : {X : Type 0} (x y : X) (xs : List X) → Contains (x ∷ xs) y → (x ≡ y) ⊎ Contains xs y
-contains-cons x y xs (zero, h, e) = inl e
-contains-cons x y xs (suc k, h, e) = inr (k, (omega arith), e)
 
 some_first : (above : ℕ → List ℕ) (o : Option ℕ) (m : ℕ) → Contains (and_above above o) m → (p : ℕ) × (o ≡ Some p) × ((p ≡ m) ⊎ Contains (above p) m)
 some_first above None m h = absurd (omega (arith, h.1))

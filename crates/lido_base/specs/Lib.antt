@@ -4,8 +4,10 @@ pub mod Inputs
 pub mod Phases
 pub mod Faults
 pub mod Texts
+pub mod Bytes
 pub mod Plain
 pub mod Operations
+pub mod Types
 pub mod Environment
 pub mod Tree
 pub mod Equations

@@ -2,7 +2,7 @@
 ghost use Rattle.std.specs.Prelude.{◌≡◌, ◌<◌, ◌≤◌, ◌+◌, ◌⊎◌, ◌↔◌, [], ◌∷◌, Bool, Contains, IsTrue, List, ℕ, Some, None, length, map, slice_get};
 ghost use Rattle.lido_base.specs.Equations.{IsOrdered, HasOneSolution};
 ghost use Rattle.lido_base.specs.Origins.{IsAtMost};
-ghost use Rattle.lido_base.specs.Reach.{Reaches, IsClosed, IsWithin, IsDecided, IsPath, IsLeastPath};
+ghost use Rattle.lido_base.specs.Reach.{Reaches, IsClosed, IsWithin, IsDecided, IsPath, IsLeastPath, IsLeastCycle};
 ghost use Rattle.lido_base.specs.Texts.{IsDistinctTexts, with_text};
 ghost use Rattle.lido_base.specs.Plain.{plain_item, plain_tree};
 ghost use Rattle.lido_base.specs.Tree.{Tree, IsTree, AsksBelow, ancestors, children, coordinate, from_children, items_of, parent_of, place_of, rule_at};
@@ -50,10 +50,12 @@ pub fn reaching_is_least_and_decided()
         → IsWithin universe is_source is_edge → IsDecided is_source is_edge }
 {}
 
-/// A vertex has one least path to a source at most.
+/// There is one least path from some starts to a source at most, and one least cycle.
 pub fn one_least_path()
-    ensures { (is_source : ℕ → Bool) (is_edge : ℕ → ℕ → Bool) (s : ℕ) (rest other : List ℕ)
-        → IsLeastPath is_source is_edge s rest → IsLeastPath is_source is_edge s other → rest ≡ other }
+    ensures path { (is_start is_source : ℕ → Bool) (is_edge : ℕ → ℕ → Bool) (path other : List ℕ)
+        → IsLeastPath is_start is_source is_edge path → IsLeastPath is_start is_source is_edge other → path ≡ other }
+    ensures cycle { (is_edge : ℕ → ℕ → Bool) (cycle other : List ℕ)
+        → IsLeastCycle is_edge cycle → IsLeastCycle is_edge other → cycle ≡ other }
 {}
 
 /// Above a node of a tree stand its parent and what is above that one; above a node without a parent stands nothing.

@@ -1,5 +1,5 @@
 //! The texts of a run, each with an id.
-ghost use Rattle.std.specs.Prelude.{◌≡◌, Some, [], ◌<◌, ◌^◌, length, slice_get, IfOk, OnOk, OnErr};
+ghost use Rattle.std.specs.Prelude.{◌≡◌, ℕ, Some, [], ◌<◌, ◌≤◌, ◌^◌, length, slice_get, IfOk, IfSome, IfNone, OnOk, OnErr};
 ghost use Rattle.lido_base.specs.Texts.{IsDistinctTexts, with_text};
 
 use crate::{Memory, StrId};
@@ -41,14 +41,14 @@ pub struct Strings {
 }
 
 impl Model for Strings {
-    ghost use Rattle.std.specs.Prelude.{List, ℕ};
+    ghost use Rattle.std.specs.Prelude.{List, ℕ, length, ◌≤◌, ◌^◌};
     ghost use Rattle.lido_base.specs.Texts.{IsDistinctTexts, texts_of};
 
     ghost Value = { List (List ℕ) };
 
     ghost view = { λ s. texts_of s.set.keys };
 
-    ghost invariant = { λ s. IsDistinctTexts (texts_of s.set.keys) };
+    ghost invariant = { λ s. IsDistinctTexts (texts_of s.set.keys) × (length s.set.keys ≤ 2 ^ 32) };
 }
 
 impl Strings {
@@ -86,6 +86,7 @@ impl Strings {
     pub fn len(&self) -> usize
         ensures count { result ≡ length self.now }
         ensures distinct { IsDistinctTexts self.now }
+        ensures few { length self.now ≤ 2 ^ 32 }
     {
         self.set.len()
     }
@@ -99,12 +100,24 @@ impl Strings {
         ensures distinct { IsDistinctTexts self.new }
     {
         if let Some(index) = self.set.get_index_of(text) {
-            return u32_id(index);
+            return Ok(StrId(index as u32));
         }
         let id = u32_id(self.set.len())?;
         let owned = text.to_vec(*self.set.allocator())?;
         self.set.insert(owned)?;
         Ok(id)
+    }
+
+    /// The id of a text, if it stands here. Nothing is added; the time is that of one hash of the text and, in the mean, of
+    /// one comparison.
+    pub fn find(&self, text: &[u8]) -> Option<StrId>
+        ensures there { IfSome result (λ id. slice_get self.now id.0 ≡ Some text.now) }
+        ensures absent { IfNone result ((i : ℕ) → slice_get self.now i ≡ Some text.now → ⊥) }
+    {
+        match self.set.get_index_of(text) {
+            Some(index) => Some(StrId(index as u32)),
+            None => None,
+        }
     }
 
     /// The text of an id that this table gave.
@@ -131,7 +144,8 @@ fn digest(prefix: &[u8], text: &[u8]) -> u64 {
 }
 
 fn u32_id(index: usize) -> Result<StrId, Memory>
-    ensures { IfOk result (λ id. id.0 ≡ index) }
+    ensures number { IfOk result (λ id. id.0 ≡ index) }
+    ensures within { IfOk result (λ _. index < 2 ^ 32) }
 {
     match u32::try_from(index) {
         Ok(number) => Ok(StrId(number)),

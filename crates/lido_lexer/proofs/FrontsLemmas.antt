@@ -3,7 +3,8 @@ use Rattle.std.proofs.Common.{◌≡◌, ℕ, ℤ, ◌<◌, Bool, true, false, c
 use Rattle.std.specs.List.{take_while}
 use Rattle.std.proofs.lemmas.Bool.Decides.{nat_tests}
 use Rattle.std.proofs.lemmas.List.Sums.{take_while-cons}
-use Rattle.lido_lexer.specs.Bytes.{is_white, is_letter, is_digit, is_literal_byte, first_is, behind, is_line_byte}
+use Rattle.lido_base.specs.Bytes.{is_white, is_letter, is_digit, first_is, behind}
+use Rattle.lido_lexer.specs.Bytes.{is_literal_byte, is_line_byte}
 use Rattle.lido_lexer.specs.Gaps.{IsGap, white, block, line, EndsFirst}
 use Rattle.lido_lexer.specs.Keywords.{keyword_of}
 use Rattle.lido_lexer.specs.Signs.{IsSign, sign_spelling, begins_comment}

@@ -1,6 +1,7 @@
 -- Pieces between tokens, by their first bytes.
 use Rattle.std.proofs.Common.{◌≡◌, ◌≢◌, ℕ, true, false, List, [], ◌∷◌, refl, ap, sym, ◌∙◌, subst, true≢false, ◌⊎◌, inl, inr}
-use Rattle.lido_lexer.specs.Bytes.{is_white, is_line_byte, behind}
+use Rattle.lido_base.specs.Bytes.{is_white, behind}
+use Rattle.lido_lexer.specs.Bytes.{is_line_byte}
 use Rattle.lido_lexer.specs.Gaps.{IsGap, white, block, line, EndsFirst}
 use Rattle.lido_lexer.proofs.Lists.{head_of, tail_of, no_bytes}
 

@@ -4,7 +4,8 @@ use Rattle.std.proofs.lemmas.List.{map-append, length-append}
 use Rattle.std.proofs.lemmas.List.Elements.{All-head, All-tail, All-push}
 use Rattle.lido_lexer.specs.Gaps.{IsGap, IsPast, at_once, one_more}
 use Rattle.lido_lexer.specs.Tokens.{IsFront, Word, Str, Literal, shown_kind}
-use Rattle.lido_lexer.specs.Lexing.{Placed, IsCutInto, up_to_end, up_to, gap_first, token_first, shown_in, placed, Gains, HasText, IsInOrder, IsRefusal}
+use Rattle.lido_base.specs.Texts.{Gains}
+use Rattle.lido_lexer.specs.Lexing.{Placed, IsCutInto, up_to_end, up_to, gap_first, token_first, shown_in, placed, HasText, IsInOrder, IsRefusal}
 use Rattle.lido_lexer.specs.declared.token.Token.{Token}
 use Rattle.lido_lexer.specs.declared.token.TokenKind.{TokenKind}
 use Rattle.lido_lexer.specs.declared.token.TokenKind.TheVariants as kind

@@ -4,12 +4,13 @@ use Rattle.std.proofs.lemmas.List.{map-append}
 use Rattle.std.proofs.lemmas.List.Elements.{All-head, All-tail}
 use Rattle.std.proofs.lemmas.Option.{slice_get-get_or, unwrap_or-slice_get}
 use Rattle.lido_base.specs.Phases.{IsThe}
-use Rattle.lido_base.specs.Texts.{with_text, IsDistinctTexts}
+use Rattle.lido_base.specs.Texts.{IsDistinctTexts, Gains, interned}
 use Rattle.lido_base.specs.declared.ids.StrId.{StrId}
 use Rattle.lido_base.proofs.TextsLemmas.{same_place}
+pub use Rattle.lido_base.proofs.TextsLemmas.{interned_none, interned_one, interned_append, text_added}
 use Rattle.lido_lexer.specs.Tokens.{shown_kind}
-use Rattle.lido_lexer.specs.Lexing.{Placed, Lexing, Gains, HasText, IsCutInto, shown_in}
-use Rattle.lido_lexer.specs.Tables.{interned, text_of, texts_in, IsLexed, LexedFrom}
+use Rattle.lido_lexer.specs.Lexing.{Placed, Lexing, HasText, IsCutInto, shown_in}
+use Rattle.lido_lexer.specs.Tables.{text_of, texts_in, IsLexed, LexedFrom}
 use Rattle.lido_lexer.specs.declared.token.Token.{Token}
 use Rattle.lido_lexer.specs.declared.token.TokenKind.{TokenKind}
 use Rattle.lido_lexer.specs.declared.token.TokenKind.TheVariants as kind
@@ -19,23 +20,6 @@ use Rattle.lido_lexer.proofs.One.{one_answer, cut_lexes, cut_stuck}
 use Rattle.lido_lexer.proofs.Reading.{shown_kept}
 
 -- ---- what is added
-
-pub interned_none : (texts : List (List ℕ)) → interned texts [] ≡ texts
-unfolding interned
-interned_none texts = refl
-
-pub interned_one : (texts : List (List ℕ)) (text : List ℕ) → interned texts (text ∷ []) ≡ with_text texts text
-unfolding interned
-interned_one texts text = refl
-
-pub interned_append : (texts more others : List (List ℕ)) → interned texts (more ++ others) ≡ interned (interned texts more) others
-unfolding interned
-interned_append texts [] others = refl
-interned_append texts (text ∷ more) others = interned_append (with_text texts text) more others
-
--- an id that was given has the one text that is added
-pub text_added : (old new : List (List ℕ)) (i : ℕ) (text : List ℕ) → slice_get new i ≡ Some text → new ≡ with_text old text → new ≡ interned old (unwrap_or (slice_get new i) [] ∷ [])
-text_added old new i text there added = added ∙ sym (interned_one old text) ∙ ap (λ (o : Option (List ℕ)). interned old (unwrap_or o [] ∷ [])) (sym there)
 
 texts_append : (tokens others : List Placed) → texts_in (tokens ++ others) ≡ texts_in tokens ++ texts_in others
 texts_append [] others = refl

@@ -1,6 +1,7 @@
 -- What may stand between tokens.
 use Rattle.std.specs.Prelude.{◌≡◌, ◌≢◌, ℕ, List, ◌∷◌, ◌++◌, codes, IsTrue}
-use Rattle.lido_lexer.specs.Bytes.{is_white, is_line_byte, behind}
+use Rattle.lido_base.specs.Bytes.{is_white, behind}
+use Rattle.lido_lexer.specs.Bytes.{is_line_byte}
 
 -- "*/" stands nowhere in the text.
 abbrev pub HasNoEnd : List ℕ → Type 0

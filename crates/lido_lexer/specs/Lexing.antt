@@ -1,5 +1,6 @@
 -- A whole text and its tokens.
-use Rattle.std.specs.Prelude.{◌≡◌, ◌≢◌, ◌-◌, ◌<◌, ◌≤◌, ⊤, ℕ, List, [], ◌∷◌, ◌++◌, length, Option, Some, None, Result, Ok, Err}
+use Rattle.std.specs.Prelude.{◌≡◌, ◌≢◌, ◌-◌, ◌<◌, ◌≤◌, ⊤, ℕ, List, [], ◌∷◌, length, Option, Some, None, Result, Ok, Err}
+pub use Rattle.lido_base.specs.Texts.{Gains}
 use Rattle.lido_lexer.specs.declared.token.Token.{Token}
 use Rattle.lido_lexer.specs.declared.token.LexFault.{LexFault}
 use Rattle.lido_lexer.specs.declared.token.LexFault.TheVariants as fault
@@ -61,11 +62,6 @@ pub data IsCutInto (size : ℕ) : List ℕ → List Placed → Option ℕ → Ty
       → IsCutInto size rest tokens stuck → IsCutInto size bytes (placed size bytes shown rest ∷ tokens) stuck
 
 -- ---- what one call adds
-
--- The texts gained some, behind those that were there.
-pub record Gains (old new : List (List ℕ)) : Type 0 where
-  pub added : List (List ℕ)
-  pub behind : new ≡ old ++ added
 
 -- The id that a token has, if it has one, is below the number of texts.
 abbrev pub HasText : ℕ → TokenKind → Type 0

@@ -1,15 +1,10 @@
 -- The table of texts once a text is read: what it was before and what the text says decide of it.
 use Rattle.std.specs.Prelude.{◌≡◌, ℕ, List, [], ◌∷◌, ◌++◌, length, map, All, Result, Ok, Err}
-use Rattle.lido_base.specs.Texts.{with_text}
+unfoldable pub use Rattle.lido_base.specs.Texts.{interned}
 use Rattle.lido_lexer.specs.declared.token.Token.{Token}
 use Rattle.lido_lexer.specs.declared.token.LexFault.{LexFault}
 use Rattle.lido_lexer.specs.Tokens.{Shown, Word, Str, Literal}
 use Rattle.lido_lexer.specs.Lexing.{Placed, Lexing, HasText, shown_in}
-
--- The texts once these are among them too: each new one goes behind the others, in order.
-unfoldable pub interned : List (List ℕ) → List (List ℕ) → List (List ℕ)
-interned texts [] = texts
-interned texts (text ∷ added) = interned (with_text texts text) added
 
 -- The text that a token has: a name, a string or a literal has one.
 abbrev pub text_of : Shown → List (List ℕ)

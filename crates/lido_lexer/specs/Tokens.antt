@@ -1,6 +1,7 @@
 -- Which bytes spell which token: a profile of the tokens of Eli's LIDO and PTG, whose strings have the escapes of C.
 use Rattle.std.specs.Prelude.{◌≡◌, ◌<◌, ◌≤◌, ℕ, ℤ, pos, ◌==◌, if◌then◌else◌, List, [], ◌∷◌, length, drop, take_while, Option, Some, None, slice_get, unwrap_or, IsTrue}
-use Rattle.lido_lexer.specs.Bytes.{is_letter, is_name_byte, is_digit, is_plain, is_literal_byte, first_is, behind, octal_front, value_in}
+use Rattle.lido_base.specs.Bytes.{is_letter, is_name_byte, is_digit, first_is, behind}
+use Rattle.lido_lexer.specs.Bytes.{is_plain, is_literal_byte, octal_front, value_in}
 use Rattle.lido_lexer.specs.Keywords.{keyword_of}
 use Rattle.lido_lexer.specs.Signs.{IsSign}
 use Rattle.lido_lexer.specs.declared.keyword.Keyword.{Keyword}

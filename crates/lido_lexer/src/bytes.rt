@@ -1,6 +1,7 @@
 //! Bytes by what they may stand for, and how many pass a test in front of a text.
 ghost use Rattle.std.specs.Prelude.{◌≡◌, length, drop, take_while};
-ghost use Rattle.lido_lexer.specs.Bytes.{is_white, is_digit, is_octal, is_letter, is_name_byte, is_line_byte, is_literal_byte, is_plain, behind, octal_front};
+ghost use Rattle.lido_base.specs.Bytes.{is_white, is_digit, is_letter, is_name_byte, behind};
+ghost use Rattle.lido_lexer.specs.Bytes.{is_octal, is_line_byte, is_literal_byte, is_plain, octal_front};
 
 /// White space: space, tab, form feed, carriage return and line feed.
 pub fn is_white(b: u8) -> bool

@@ -1,11 +1,11 @@
 //! A whole text is cut into its tokens.
 ghost use Rattle.std.specs.Prelude.{◌≡◌, ◌⊎◌, ◌+◌, ◌<◌, ◌≤◌, ◌^◌, List, ℕ, Some, length, map, slice_get, IfOk, IfErr, IfSome, All};
 ghost use Rattle.lido_base.specs.Phases.{Gives};
-ghost use Rattle.lido_base.specs.Texts.{with_text};
+ghost use Rattle.lido_base.specs.Texts.{with_text, Gains, interned};
 ghost use Rattle.lido_lexer.specs.Lexemes.{name_shown, said};
 ghost use Rattle.lido_lexer.specs.Tokens.{IsFront, shown_kind};
-ghost use Rattle.lido_lexer.specs.Lexing.{Gains, HasText, IsCutInto, IsInOrder, IsRefusal, Lexing, place, placed, shown_in};
-ghost use Rattle.lido_lexer.specs.Tables.{LexedFrom, interned, text_of, texts_in};
+ghost use Rattle.lido_lexer.specs.Lexing.{HasText, IsCutInto, IsInOrder, IsRefusal, Lexing, place, placed, shown_in};
+ghost use Rattle.lido_lexer.specs.Tables.{LexedFrom, text_of, texts_in};
 
 use crate::gaps::skip_gaps;
 use crate::keyword::keyword_of;

@@ -23,7 +23,7 @@ use Rattle.ptg_patterns.specs.declared.written.Item.{Item}
 use Rattle.ptg_patterns.specs.declared.written.Written.{Written}
 use Rattle.ptg_patterns.specs.Marks.{is_numbered, key_mark, number_mark, sign_mark, mark_of, marks, marks_up_to}
 use Rattle.ptg_patterns.specs.Language.{type_in_front, behind_type, is_bare, IsItems, end, text, bare, numbered, opened, closed, IsWritten, none, pattern}
-use Rattle.ptg_patterns.specs.First.{HasNone}
+use Rattle.ptg_patterns.specs.First.{HasNoClash}
 use Rattle.ptg_patterns.specs.Meaning.{points, arguments, greatest, first_type, argument_types, pattern_of}
 use Rattle.ptg_patterns.specs.Clashes.{has_number, has_no_number, has_other_form, IsMixed}
 
@@ -45,7 +45,7 @@ numbered_clash first q front m is e = inl (subst (λ (o : Option ℕ). IsTrue (h
 bare_kept : (q : PointOf) (rest : List PointOf) → q.number ≡ None → length (filter has_no_number (q ∷ rest)) ≡ suc (length (filter has_no_number rest))
 bare_kept q rest e = ap (λ (o : Option ℕ). length (if not (elim o [ None ↦ false | Some m ↦ true ]) then q ∷ filter has_no_number rest else filter has_no_number rest)) e
 
-bare_step : (first q : PointOf) (front rest : List PointOf) (k : ℕ) → first.number ≡ None → HasNone IsMixed (first ∷ (front ++ q ∷ rest))
+bare_step : (first q : PointOf) (front rest : List PointOf) (k : ℕ) → first.number ≡ None → HasNoClash IsMixed (first ∷ (front ++ q ∷ rest))
     → (greatest (arguments (suc (suc k)) rest) ≤ suc k + length rest) × (length (filter has_no_number rest) ≡ length rest) → (o : Option ℕ) → q.number ≡ o
     → (greatest (arguments (suc k) (q ∷ rest)) ≤ k + length (q ∷ rest)) × (length (filter has_no_number (q ∷ rest)) ≡ length (q ∷ rest))
 bare_step first q front rest k is agree later None e =
@@ -55,14 +55,14 @@ bare_step first q front rest k is agree later None e =
 bare_step first q front rest k is agree later (Some n) e = absurd (agree (first ∷ front) q rest refl (bare_clash first q front n is e))
 
 -- from a bare point on all are bare
-bare_counts : (first : PointOf) (front rest : List PointOf) (k : ℕ) → first.number ≡ None → HasNone IsMixed (first ∷ (front ++ rest))
+bare_counts : (first : PointOf) (front rest : List PointOf) (k : ℕ) → first.number ≡ None → HasNoClash IsMixed (first ∷ (front ++ rest))
     → (greatest (arguments (suc k) rest) ≤ k + length rest) × (length (filter has_no_number rest) ≡ length rest)
 bare_counts first front [] k is agree = (omega arith, refl)
 bare_counts first front (q ∷ rest) k is agree =
-    let more = subst (λ (l : List PointOf). HasNone IsMixed (first ∷ l)) (sym (append_assoc front (q ∷ []) rest)) agree in
+    let more = subst (λ (l : List PointOf). HasNoClash IsMixed (first ∷ l)) (sym (append_assoc front (q ∷ []) rest)) agree in
     bare_step first q front rest k is agree (bare_counts first (front ++ q ∷ []) rest (suc k) is more) q.number refl
 
-numbered_step : (first q : PointOf) (m : ℕ) (front rest : List PointOf) (k : ℕ) → first.number ≡ Some m → HasNone IsMixed (first ∷ (front ++ q ∷ rest))
+numbered_step : (first q : PointOf) (m : ℕ) (front rest : List PointOf) (k : ℕ) → first.number ≡ Some m → HasNoClash IsMixed (first ∷ (front ++ q ∷ rest))
     → IsSmall q.number → greatest (arguments (suc k) rest) ≤ 64 → (o : Option ℕ) → q.number ≡ o → greatest (arguments k (q ∷ rest)) ≤ 64
 numbered_step first q m front rest k is agree small later None e = absurd (agree (first ∷ front) q rest refl (numbered_clash first q front m is e))
 numbered_step first q m front rest k is agree small later (Some n) e =
@@ -71,15 +71,15 @@ numbered_step first q m front rest k is agree small later (Some n) e =
     omega (arith, number, few, later)
 
 -- from a point with a number on all have one
-numbered_counts : (first : PointOf) (m : ℕ) (front rest : List PointOf) (k : ℕ) → first.number ≡ Some m → HasNone IsMixed (first ∷ (front ++ rest))
+numbered_counts : (first : PointOf) (m : ℕ) (front rest : List PointOf) (k : ℕ) → first.number ≡ Some m → HasNoClash IsMixed (first ∷ (front ++ rest))
     → All (λ (p : PointOf). IsSmall p.number) rest → greatest (arguments k rest) ≤ 64
 numbered_counts first m front [] k is agree small = omega arith
 numbered_counts first m front (q ∷ rest) k is agree small =
-    let more = subst (λ (l : List PointOf). HasNone IsMixed (first ∷ l)) (sym (append_assoc front (q ∷ []) rest)) agree in
+    let more = subst (λ (l : List PointOf). HasNoClash IsMixed (first ∷ l)) (sym (append_assoc front (q ∷ []) rest)) agree in
     let P : PointOf → Type 0 = λ p. IsSmall p.number in
     numbered_step first q m front rest k is agree (All-head P q rest small) (numbered_counts first m (front ++ q ∷ []) rest (suc k) is more (All-tail P q rest small)) q.number refl
 
-agreeing_step : (p : PointOf) (rest : List PointOf) → HasNone IsMixed (p ∷ rest) → All (λ (q : PointOf). IsSmall q.number) (p ∷ rest) → length (filter has_no_number (p ∷ rest)) ≤ 64
+agreeing_step : (p : PointOf) (rest : List PointOf) → HasNoClash IsMixed (p ∷ rest) → All (λ (q : PointOf). IsSmall q.number) (p ∷ rest) → length (filter has_no_number (p ∷ rest)) ≤ 64
     → (o : Option ℕ) → p.number ≡ o → greatest (arguments 1 (p ∷ rest)) ≤ 64
 agreeing_step p rest agree small few None e =
     let counts = bare_counts p [] rest 1 e agree in
@@ -95,7 +95,7 @@ agreeing_step p rest agree small few (Some n) e =
     let later = numbered_counts p n [] rest 2 e agree (All-tail P p rest small) in
     omega (arith, number, own, later)
 
-agreeing_counts : (all : List PointOf) → HasNone IsMixed all → All (λ (p : PointOf). IsSmall p.number) all → length (filter has_no_number all) ≤ 64 → greatest (arguments 1 all) ≤ 64
+agreeing_counts : (all : List PointOf) → HasNoClash IsMixed all → All (λ (p : PointOf). IsSmall p.number) all → length (filter has_no_number all) ≤ 64 → greatest (arguments 1 all) ≤ 64
 agreeing_counts [] agree small few = omega arith
 agreeing_counts (p ∷ rest) agree small few = agreeing_step p rest agree small few p.number refl
 
@@ -121,7 +121,7 @@ pub record AreFew (items : List Item) : Type 0 where
   pub small : All (λ (p : PointOf). IsSmall p.number) (points items)
   pub bare : length (filter is_bare items) ≤ 64
 
-pub few_arguments : (items : List Item) → HasNone IsMixed (points items) → AreFew items → length (argument_types (arguments 1 (points items))) ≤ 64
+pub few_arguments : (items : List Item) → HasNoClash IsMixed (points items) → AreFew items → length (argument_types (arguments 1 (points items))) ≤ 64
 few_arguments items agree few =
     let most = agreeing_counts (points items) agree few.small (subst (λ (n : ℕ). n ≤ 64) (bare_points items) few.bare) in
     let all = arguments 1 (points items) in
@@ -201,17 +201,17 @@ written_fit all patterns (pattern {at = at} {id = id} {marks = us} {rest = rest}
     All-cons (λ (w : Written). AreFew w.items) (record { at = at; name = id; items = items }) more (record { small = both.0; bare = few }) (written_fit rest more q both.1)
 
 -- the patterns have few arguments
-pub few_of_each : (all : List Written) → All (λ (w : Written). HasNone IsMixed (points w.items)) all → All (λ (w : Written). AreFew w.items) all
+pub few_of_each : (all : List Written) → All (λ (w : Written). HasNoClash IsMixed (points w.items)) all → All (λ (w : Written). AreFew w.items) all
     → All (λ (p : Pattern). length p.args ≤ 64) (map pattern_of all)
 few_of_each [] agree few = λ k d less. absurd (omega (arith, less))
 few_of_each (w ∷ all) agree few =
-    let A : Written → Type 0 = λ v. HasNone IsMixed (points v.items) in
+    let A : Written → Type 0 = λ v. HasNoClash IsMixed (points v.items) in
     let F : Written → Type 0 = λ v. AreFew v.items in
     All-cons (λ (p : Pattern). length p.args ≤ 64) (pattern_of w) (map pattern_of all) (few_arguments w.items (All-head A w all agree) (All-head F w all few))
     (few_of_each all (All-tail A w all agree) (All-tail F w all few))
 
 pub few_found : {X : Type 0} (view : X → List Pattern) (r : Result X PtgFault) (all : List Written) → IfOk r (λ found. view found ≡ map pattern_of all)
-    → OnOk r (All (λ (w : Written). HasNone IsMixed (points w.items)) all) → All (λ (w : Written). AreFew w.items) all
+    → OnOk r (All (λ (w : Written). HasNoClash IsMixed (points w.items)) all) → All (λ (w : Written). AreFew w.items) all
     → IfOk r (λ found. All (λ (p : Pattern). length p.args ≤ 64) (view found))
 few_found view (Ok found) all is agree few = subst (All (λ (p : Pattern). length p.args ≤ 64)) (sym is) (few_of_each all agree few)
 few_found view (Err e) all is agree few = tt

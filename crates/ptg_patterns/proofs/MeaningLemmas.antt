@@ -16,7 +16,7 @@ use Rattle.ptg_patterns.specs.declared.written.Content.{Content}
 use Rattle.ptg_patterns.specs.declared.written.Content.TheVariants.{Text, Point}
 use Rattle.ptg_patterns.specs.declared.written.Item.{Item}
 use Rattle.ptg_patterns.specs.declared.written.Written.{Written}
-use Rattle.ptg_patterns.specs.First.{HasNone}
+use Rattle.ptg_patterns.specs.First.{HasNoClash}
 use Rattle.ptg_patterns.specs.Meaning.{points, parts, pattern_of}
 use Rattle.ptg_patterns.specs.Clashes.{IsMixed, IsMixedAt, is_used, is_reserved, is_taken, IsRefused, duplicate, mixed, CantStand, IsClash}
 use Rattle.ptg_patterns.proofs.FirstLemmas.{first_here}
@@ -71,7 +71,7 @@ split_at : {A : Type 0} (items : List A) (i : ℕ) (d : A) → i < length items 
 split_at {A} items i d less = sym (ap (λ (l : List A). take i items ++ l) (sym (drop-cons items i d less)) ∙ take-append-drop i items)
 
 -- the first point that does not agree
-pub mixed_at : (items : List Item) (i : ℕ) (d : Item) (point : PointOf) (e : PtgFault) → i < length items → HasNone IsMixed (points (take i items))
+pub mixed_at : (items : List Item) (i : ℕ) (d : Item) (point : PointOf) (e : PtgFault) → i < length items → HasNoClash IsMixed (points (take i items))
     → points (get_or items i d ∷ []) ≡ point ∷ [] → e ≡ PtgMixed point.at → IsMixed (points (take i items)) point → IsMixedAt (points items) e
 mixed_at items i d point e less none is fault clash =
     let here = points-append (get_or items i d ∷ []) (drop (suc i) items) in
@@ -114,12 +114,12 @@ patterns_more all i d found next less before more =
     ∙ sym (ap (map pattern_of) (written_more all i d less) ∙ map-append pattern_of (take i all) (get_or all i d ∷ []))
 
 -- a pattern whose name is free and whose points agree can stand
-pub can_stand : (texts : List (List ℕ)) (before : List Written) (one : Written) → is_taken texts before one.name ≡ false → HasNone IsMixed (points one.items) → CantStand texts before one → ⊥
+pub can_stand : (texts : List (List ℕ)) (before : List Written) (one : Written) → is_taken texts before one.name ≡ false → HasNoClash IsMixed (points one.items) → CantStand texts before one → ⊥
 can_stand texts before one free agree (fault, duplicate taken) = let h : true ≡ false = sym taken ∙ free in cc
 can_stand texts before one free agree (fault, mixed e at) = agree at.0 at.1 at.2.behind at.2.parts at.2.clashes
 
 -- the first that can't
-pub clash_at : (texts : List (List ℕ)) (all : List Written) (i : ℕ) (d : Written) (e : PtgFault) → i < length all → HasNone (CantStand texts) (take i all)
+pub clash_at : (texts : List (List ℕ)) (all : List Written) (i : ℕ) (d : Written) (e : PtgFault) → i < length all → HasNoClash (CantStand texts) (take i all)
     → IsRefused texts (take i all) (get_or all i d) e → IsClash texts all e
 clash_at texts all i d e less none refused =
     (take i all, get_or all i d, first_here (CantStand texts) all (take i all) (drop (suc i) all) (get_or all i d) none (e, refused) (split_at all i d less), refused)

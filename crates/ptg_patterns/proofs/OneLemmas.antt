@@ -4,11 +4,11 @@ use Rattle.std.proofs.lemmas.List.{take-append-drop, take-take}
 use Rattle.std.proofs.lemmas.Bool.{cases_order}
 use Rattle.lido_base.specs.Reading.{Begins, IsFaultPlace}
 use Rattle.lido_base.specs.Phases.{IsThe}
-use Rattle.lido_base.specs.Texts.{IsDistinctTexts}
+use Rattle.lido_base.specs.Texts.{IsDistinctTexts, interned}
 use Rattle.lido_base.specs.declared.pattern.Pattern.{Pattern}
 use Rattle.lido_lexer.specs.Lexing.{Placed}
 use Rattle.lido_lexer.specs.declared.token.Token.{Token}
-use Rattle.lido_lexer.specs.Tables.{interned, texts_in}
+use Rattle.lido_lexer.specs.Tables.{texts_in}
 use Rattle.lido_lexer.proofs.One.{one_cut}
 use Rattle.lido_lexer.proofs.TablesLemmas.{same_tokens}
 use Rattle.ptg_patterns.specs.declared.fault.PtgFault.{PtgFault}

@@ -8,7 +8,7 @@ use Rattle.ptg_patterns.specs.declared.fault.PtgFault.{PtgFault}
 use Rattle.ptg_patterns.specs.declared.fault.PtgFault.TheVariants.{PtgDuplicate, PtgMixed}
 use Rattle.ptg_patterns.specs.declared.written.Point.{Point}
 use Rattle.ptg_patterns.specs.declared.written.Written.{Written}
-use Rattle.ptg_patterns.specs.First.{IsFirst}
+use Rattle.ptg_patterns.specs.First.{IsFirstClash}
 use Rattle.ptg_patterns.specs.Meaning.{points, arguments, first_type}
 
 -- The point has a number.
@@ -32,7 +32,7 @@ IsMixed before point = IsTrue (has_other_form before point.number)
 
 -- The fault is at the first of the points that does not agree with those before it.
 abbrev pub IsMixedAt : List Point → PtgFault → Type 0
-IsMixedAt points fault = (before : List Point) × (point : Point) × IsFirst IsMixed points before point × (fault ≡ PtgMixed point.at)
+IsMixedAt points fault = (before : List Point) × (point : Point) × IsFirstClash IsMixed points before point × (fault ≡ PtgMixed point.at)
 
 -- The names of functions that every text has.
 abbrev pub reserved_names : List (List ℕ)
@@ -62,4 +62,4 @@ module _ (texts : List (List ℕ)) where
 
   -- The fault of the first pattern that can't stand behind those before it.
   abbrev pub IsClash : List Written → PtgFault → Type 0
-  IsClash patterns fault = (before : List Written) × (written : Written) × IsFirst CantStand patterns before written × IsRefused before written fault
+  IsClash patterns fault = (before : List Written) × (written : Written) × IsFirstClash CantStand patterns before written × IsRefused before written fault

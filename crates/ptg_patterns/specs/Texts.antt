@@ -3,14 +3,15 @@ use Rattle.std.specs.Prelude.{◌≡◌, ◌⊎◌, ℕ, List, length, map, All,
 use Rattle.lido_base.specs.Reading.{IsFaultPlace}
 use Rattle.lido_base.specs.declared.pattern.Pattern.{Pattern}
 use Rattle.lido_lexer.specs.Lexing.{Placed, IsCutInto, HasText, shown_in}
-use Rattle.lido_lexer.specs.Tables.{interned, texts_in}
+use Rattle.lido_base.specs.Texts.{interned}
+use Rattle.lido_lexer.specs.Tables.{texts_in}
 use Rattle.lido_lexer.specs.declared.token.Token.{Token}
 use Rattle.ptg_patterns.specs.declared.fault.PtgFault.{PtgFault}
 use Rattle.ptg_patterns.specs.declared.fault.PtgFault.TheVariants.{PtgSyntax}
 use Rattle.ptg_patterns.specs.declared.written.Written.{Written}
 use Rattle.ptg_patterns.specs.Marks.{marks_up_to}
 use Rattle.ptg_patterns.specs.Language.{IsWritten, IsText}
-use Rattle.ptg_patterns.specs.First.{HasNone}
+use Rattle.ptg_patterns.specs.First.{HasNoClash}
 use Rattle.ptg_patterns.specs.Clashes.{CantStand, IsClash}
 use Rattle.ptg_patterns.specs.Meaning.{pattern_of}
 
@@ -27,7 +28,7 @@ module _ (texts : List (List ℕ)) where
   -- What these tokens of a text of this size say: patterns that can stand together; or else PtgSyntax, at the first mark with
   -- which they begin no text of patterns, or where one is missing; or the fault of the first pattern that can't stand.
   abbrev pub Reads : ℕ → List Token → Option ℕ → Result (List Pattern) PtgFault → Type 0
-  Reads size tokens stuck (Ok patterns) = (all : List Written) × IsWritten (marks_up_to tokens stuck) all × HasNone (CantStand texts) all × (patterns ≡ map pattern_of all)
+  Reads size tokens stuck (Ok patterns) = (all : List Written) × IsWritten (marks_up_to tokens stuck) all × HasNoClash (CantStand texts) all × (patterns ≡ map pattern_of all)
   Reads size tokens stuck (Err fault) = ((k : ℕ) × IsFaultPlace IsText (marks_up_to tokens stuck) k × (fault ≡ PtgSyntax (place_of size tokens stuck k)))
       ⊎ ((all : List Written) × IsWritten (marks_up_to tokens stuck) all × IsClash texts all fault)
 

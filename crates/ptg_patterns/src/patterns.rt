@@ -2,7 +2,7 @@
 ghost use Rattle.std.specs.Prelude.{◌≡◌, ◌⊎◌, ◌||◌, ◌+◌, ◌<◌, ◌≤◌, ◌^◌, ◌∷◌, [], ◌++◌, length, map, false, slice_get, slice_index_or, unwrap_or, All, IfOk, IfErr, OnOk, List as Sequence};
 ghost use Rattle.ptg_patterns.specs.declared.written.Point.{Point as PointOf};
 ghost use Rattle.ptg_patterns.specs.Clashes.{CantStand, IsClash, IsMixed, IsMixedAt, is_reserved};
-ghost use Rattle.ptg_patterns.specs.First.{HasNone};
+ghost use Rattle.ptg_patterns.specs.First.{HasNoClash};
 ghost use Rattle.ptg_patterns.specs.Meaning.{parts, pattern_of, points};
 ghost use Rattle.ptg_patterns.specs.Tables.{Keeps};
 
@@ -17,7 +17,7 @@ fn part(arguments: &mut Arguments, item: Item) -> Result<Part, PtgFault>
     requires { arguments.old.count + 1 < 2 ^ 32 }
     ensures part { (before : Sequence PointOf) → Keeps arguments.old before → IfOk result (λ part. part ∷ [] ≡ parts (length before + 1) (item ∷ [])) }
     ensures kept { (before : Sequence PointOf) → Keeps arguments.old before → OnOk result (Keeps arguments.new (before ++ points (item ∷ []))) }
-    ensures agrees { (before : Sequence PointOf) → Keeps arguments.old before → OnOk result (HasNone IsMixed before → HasNone IsMixed (before ++ points (item ∷ []))) }
+    ensures agrees { (before : Sequence PointOf) → Keeps arguments.old before → OnOk result (HasNoClash IsMixed before → HasNoClash IsMixed (before ++ points (item ∷ []))) }
     ensures fault { (before : Sequence PointOf) → Keeps arguments.old before
         → IfErr result (λ e. (e ≡ PtgFault.Memory) ⊎ ((point : PointOf) × (points (item ∷ []) ≡ point ∷ []) × (e ≡ PtgFault.PtgMixed point.at) × IsMixed before point)) }
 {
@@ -43,7 +43,7 @@ fn parts_of(alloc: Global, items: &[Item], arguments: &mut Arguments) -> Result<
     requires none { Keeps arguments.old [] }
     ensures parts { IfOk result (λ found. found.items ≡ parts 1 items.now) }
     ensures kept { OnOk result (Keeps arguments.new (points items.now)) }
-    ensures agrees { OnOk result (HasNone IsMixed (points items.now)) }
+    ensures agrees { OnOk result (HasNoClash IsMixed (points items.now)) }
     ensures fault { IfErr result (λ e. (e ≡ PtgFault.Memory) ⊎ IsMixedAt (points items.now) e) }
 {
     let mut parts = Vec::new(alloc);
@@ -60,7 +60,7 @@ fn parts_of(alloc: Global, items: &[Item], arguments: &mut Arguments) -> Result<
 fn pattern(alloc: Global, written: &Written) -> Result<Pattern, PtgFault>
     requires { length written.now.items + 1 < 2 ^ 32 }
     ensures pattern { IfOk result (λ pattern. pattern ≡ pattern_of written.now) }
-    ensures agrees { OnOk result (HasNone IsMixed (points written.now.items)) }
+    ensures agrees { OnOk result (HasNoClash IsMixed (points written.now.items)) }
     ensures fault { IfErr result (λ e. (e ≡ PtgFault.Memory) ⊎ IsMixedAt (points written.now.items) e) }
 {
     let mut arguments = match Arguments::new(alloc) {
@@ -111,8 +111,8 @@ pub fn patterns(
     requires ids { All (λ w. w.name.0 < length strings.now) written.now }
     requires few { All (λ w. length w.items + 1 < 2 ^ 32) written.now }
     ensures patterns { IfOk result (λ found. found.items ≡ map pattern_of written.now) }
-    ensures stand { OnOk result (HasNone (CantStand strings.now) written.now) }
-    ensures agree { OnOk result (All (λ w. HasNone IsMixed (points w.items)) written.now) }
+    ensures stand { OnOk result (HasNoClash (CantStand strings.now) written.now) }
+    ensures agree { OnOk result (All (λ w. HasNoClash IsMixed (points w.items)) written.now) }
     ensures clash { IfErr result (λ e. (e ≡ PtgFault.Memory) ⊎ IsClash strings.now written.now e) }
 {
     let mut used = vec![in alloc; false; strings.len()]?;

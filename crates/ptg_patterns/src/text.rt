@@ -1,8 +1,8 @@
 //! A whole text of patterns is read.
 ghost use Rattle.std.specs.Prelude.{◌≡◌, ◌⊎◌, ◌+◌, ◌≤◌, ◌<◌, length, All, Ok, Err, IfOk, IfErr};
 ghost use Rattle.lido_base.specs.Phases.{Gives};
-ghost use Rattle.lido_base.specs.Texts.{IsDistinctTexts};
-ghost use Rattle.lido_lexer.specs.Lexing.{Gains, HasText};
+ghost use Rattle.lido_base.specs.Texts.{IsDistinctTexts, Gains};
+ghost use Rattle.lido_lexer.specs.Lexing.{HasText};
 ghost use Rattle.ptg_patterns.specs.Texts.{IsTableBehind, PatternsFrom, PatternsOf, Reads, place_of};
 
 use crate::PtgFault;

@@ -1,5 +1,5 @@
 -- Graphs for the trials of reaching and of paths.
-use Rattle.std.specs.Prelude.{ℕ, Bool, ◌&&◌, nat_eq, List, [], ◌∷◌}
+use Rattle.std.specs.Prelude.{ℕ, Bool, ◌&&◌, ◌||◌, nat_eq, List, [], ◌∷◌}
 use Rattle.std.specs.List.{list_any}
 
 -- An edge from s to c is in the list.
@@ -13,3 +13,11 @@ chain = edge_in ((3, 2) ∷ (2, 1) ∷ (4, 4) ∷ [])
 -- From 0 there are three ways to 3: over 1, over 2, and over 4 and 1.
 abbrev pub ways : ℕ → ℕ → Bool
 ways = edge_in ((0, 4) ∷ (0, 2) ∷ (0, 1) ∷ (4, 1) ∷ (2, 3) ∷ (1, 3) ∷ [])
+
+-- A path may begin at 0 and at 2.
+abbrev pub even_start : ℕ → Bool
+even_start s = nat_eq s 0 || nat_eq s 2
+
+-- 1 and 2 lead to each other, and 3 to itself.
+abbrev pub rounds : ℕ → ℕ → Bool
+rounds = edge_in ((1, 2) ∷ (2, 1) ∷ (3, 3) ∷ [])

@@ -3,8 +3,10 @@ use Rattle.std.proofs.lemmas.List.{length-append}
 use Rattle.lido_lexer.specs.Lexing.{HasText, IsCutInto, IsInOrder, Placed, place, shown_in}
 use Rattle.lido_lexer.specs.declared.token.Token.{Token}
 use Rattle.lido_lexer.proofs.Reading.{IsReading, reading_start, reading_more, reading_end, reading_stuck, reading_kept, gains_none, gains_more, gains_length, ids_more, order_more, order_within}
-use Rattle.lido_lexer.specs.Tables.{interned, texts_in}
-use Rattle.lido_lexer.proofs.TablesLemmas.{interned_none, table_more}
+use Rattle.lido_base.specs.Texts.{interned}
+use Rattle.lido_lexer.specs.Tables.{texts_in}
+use Rattle.lido_base.proofs.TextsLemmas.{interned_none}
+use Rattle.lido_lexer.proofs.TablesLemmas.{table_more}
 use Rattle.lido_lexer.proofs.BytesLemmas.{empty_of, nonempty_of}
 use Rattle.lido_lexer.proofs.lexer.lex_as_far.Goals as goal
 

@@ -1,6 +1,7 @@
 use Rattle.std.proofs.Common.{◌≡◌, ◌+◌, ◌≤◌, length, map, All}
-use Rattle.lido_lexer.specs.Lexing.{Gains, HasText, IsInOrder, place, shown_in}
-use Rattle.lido_lexer.specs.Tables.{interned, texts_in}
+use Rattle.lido_base.specs.Texts.{Gains, interned}
+use Rattle.lido_lexer.specs.Lexing.{HasText, IsInOrder, place, shown_in}
+use Rattle.lido_lexer.specs.Tables.{texts_in}
 use Rattle.lido_lexer.specs.declared.token.Token.{Token}
 use Rattle.lido_lexer.proofs.Reading.{IsReading}
 use Rattle.lido_lexer.proofs.lexer.lex_as_far.Given as goal

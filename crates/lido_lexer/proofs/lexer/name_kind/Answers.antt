@@ -1,6 +1,6 @@
 use Rattle.std.proofs.Common.{sym}
 use Rattle.std.proofs.lemmas.Option.{slice_get_within}
-use Rattle.lido_lexer.proofs.TablesLemmas.{interned_none, text_added}
+use Rattle.lido_base.proofs.TextsLemmas.{interned_none, text_added}
 use Rattle.lido_lexer.proofs.lexer.name_kind.Goals as goal
 
 pub returns-in-Some-clause-table : goal.returns-in-Some-clause-table

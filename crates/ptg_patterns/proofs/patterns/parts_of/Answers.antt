@@ -3,7 +3,7 @@ use Rattle.std.proofs.lemmas.List.{length-take}
 use Rattle.ptg_patterns.specs.declared.written.Point.{Point}
 use Rattle.ptg_patterns.specs.declared.written.Content.TheVariants.{Text}
 use Rattle.ptg_patterns.specs.declared.written.Item.{Item}
-use Rattle.ptg_patterns.specs.First.{HasNone}
+use Rattle.ptg_patterns.specs.First.{HasNoClash}
 use Rattle.ptg_patterns.specs.Clashes.{IsMixed}
 use Rattle.ptg_patterns.specs.Meaning.{points}
 use Rattle.ptg_patterns.specs.Tables.{Keeps}
@@ -40,5 +40,5 @@ loop-item-preserved c =
       keeps = subst (λ (l : List Point). Keeps c.part.new.arguments l) (sym more) (c.in-Ok.ensures.kept (points (take i items)) before.keeps);
       parts = parts_more items i no_item c.loop-item.parts.items c.push.new.self.items c.in-Ok.part c.loop-item-test.true before.parts
           (c.in-Ok.ensures.part (points (take i items)) before.keeps) c.in_ok-push-in-Ok.ensures.items;
-      agrees = subst (λ (l : List Point). HasNone IsMixed l) (sym more) (c.in-Ok.ensures.agrees (points (take i items)) before.keeps before.agrees);
+      agrees = subst (λ (l : List Point). HasNoClash IsMixed l) (sym more) (c.in-Ok.ensures.agrees (points (take i items)) before.keeps before.agrees);
     }

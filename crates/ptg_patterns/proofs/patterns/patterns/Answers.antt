@@ -4,7 +4,7 @@ use Rattle.std.proofs.lemmas.List.Elements.{All-push}
 use Rattle.lido_base.specs.declared.pattern.Pattern.{Pattern}
 use Rattle.ptg_patterns.specs.declared.fault.PtgFault.TheVariants.{PtgDuplicate}
 use Rattle.ptg_patterns.specs.declared.written.Written.{Written}
-use Rattle.ptg_patterns.specs.First.{HasNone}
+use Rattle.ptg_patterns.specs.First.{HasNoClash}
 use Rattle.ptg_patterns.specs.Clashes.{IsMixed, CantStand, IsRefused, duplicate, mixed, is_used}
 use Rattle.ptg_patterns.specs.Meaning.{points, pattern_of}
 use Rattle.ptg_patterns.proofs.FirstLemmas.{none_more}
@@ -52,6 +52,6 @@ loop-one-preserved c =
       size = length-set c.loop-one.used.items one.name.0 true ∙ before.size;
       found = patterns_more all i one c.loop-one.found.items c.push.new.self.items c.loop-one-test.true before.found
           (c.in_ok-push-in-Ok.ensures.items ∙ ap (λ (p : Pattern). c.loop-one.found.items ++ p ∷ []) (c.in-Ok.ensures.pattern ∙ ap pattern_of c.one-item.is));
-      agree = subst (All (λ (w : Written). HasNone IsMixed (points w.items))) (sym more) (All-push (λ (w : Written). HasNone IsMixed (points w.items)) (take i all) one before.agree c.in-Ok.ensures.agrees);
-      stand = subst (HasNone (CantStand texts)) (sym more) (none_more (CantStand texts) (take i all) one before.stand (can_stand texts (take i all) one free c.in-Ok.ensures.agrees));
+      agree = subst (All (λ (w : Written). HasNoClash IsMixed (points w.items))) (sym more) (All-push (λ (w : Written). HasNoClash IsMixed (points w.items)) (take i all) one before.agree c.in-Ok.ensures.agrees);
+      stand = subst (HasNoClash (CantStand texts)) (sym more) (none_more (CantStand texts) (take i all) one before.stand (can_stand texts (take i all) one free c.in-Ok.ensures.agrees));
     }

@@ -11,3 +11,4 @@ pub mod PhasesLemmas
 pub mod FaultsLemmas
 pub mod ReadingLemmas
 pub mod DecimalLemmas
+pub mod TypesLemmas

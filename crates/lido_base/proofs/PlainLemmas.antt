@@ -1,7 +1,7 @@
 -- What a tree keeps where its terminals are made plain: all but the terminals.
-use Rattle.std.specs.Prelude.{slice_get, filter_map, map, option_map, nat_eq, nat_lt, ◌&&◌, ◌||◌, IsTrue}
+use Rattle.std.specs.Prelude.{slice_get, filter_map, map, option_map, nat_lt, ◌&&◌, IsTrue}
 use Rattle.std.specs.List.Sorted.{IsStrictlyIncreasing}
-use Rattle.std.proofs.Common.{◌≡◌, ℕ, zero, suc, ◌+◌, ◌<◌, List, [], ◌∷◌, length, Option, Some, None, refl, ap, sym, subst, ◌∙◌, arith}
+use Rattle.std.proofs.Common.{◌≡◌, ℕ, zero, suc, ◌+◌, List, [], ◌∷◌, length, Option, Some, None, refl, ap, sym, subst, ◌∙◌, arith}
 use Rattle.std.proofs.lemmas.Option.{slice_get-map}
 use Rattle.lido_base.specs.declared.kinds.CoordPart.{CoordPart}
 use Rattle.lido_base.specs.declared.kinds.CoordPart.TheVariants.{Line, Col}

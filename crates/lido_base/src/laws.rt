@@ -1,13 +1,20 @@
 //! Laws of the definitions. Each function does nothing; what is proved is its contract.
 ghost use Rattle.std.specs.Prelude.{◌≡◌, ◌<◌, ◌≤◌, ◌+◌, ◌⊎◌, ◌↔◌, [], ◌∷◌, Bool, Contains, IsTrue, List, ℕ, Some, None, length, map, slice_get};
+ghost use Rattle.std.specs.List.{AllZip};
 ghost use Rattle.lido_base.specs.Equations.{IsOrdered, HasOneSolution};
+ghost use Rattle.lido_base.specs.Operations.{operate};
 ghost use Rattle.lido_base.specs.Origins.{IsAtMost};
 ghost use Rattle.lido_base.specs.Reach.{Reaches, IsClosed, IsWithin, IsDecided, IsPath, IsLeastPath, IsLeastCycle};
 ghost use Rattle.lido_base.specs.Texts.{IsDistinctTexts, with_text};
-ghost use Rattle.lido_base.specs.Plain.{plain_item, plain_tree};
+ghost use Rattle.lido_base.specs.Plain.{Plain, plain_item, plain_tree};
 ghost use Rattle.lido_base.specs.Tree.{Tree, IsTree, AsksBelow, ancestors, children, coordinate, from_children, items_of, parent_of, place_of, rule_at};
 ghost use Rattle.lido_base.specs.declared.kinds.CoordPart.{CoordPart};
+ghost use Rattle.lido_base.specs.Types.{Takes, type_of, IsOfType};
+ghost use Rattle.lido_base.specs.declared.operation.Op.{Op};
+ghost use Rattle.lido_base.specs.declared.pattern.Pattern.{Pattern as TextPattern};
+ghost use Rattle.lido_base.specs.declared.value.BadKind.{BadKind};
 ghost use Rattle.lido_base.specs.declared.value.Origin.{Origin};
+ghost use Rattle.lido_base.specs.declared.value.ValueType.{ValueType};
 ghost use Rattle.lido_base.specs.declared.value.Value.{Value};
 
 /// In a table of distinct texts, equal texts have equal ids, and one id has one text.
@@ -96,4 +103,12 @@ pub fn origins_are_in_order()
     ensures total { (o p : Origin) → IsAtMost o p ⊎ IsAtMost p o }
     ensures transitive { (o p q : Origin) → IsAtMost o p → IsAtMost p q → IsAtMost o q }
     ensures antisymmetric { (o p : Origin) → IsAtMost o p → IsAtMost p o → o ≡ p }
+{}
+
+/// An operation whose arguments are of the types of a row of its table, or Bad, gives a value of the row's type, or Bad: typed
+/// arguments never fail to fit. `fails` makes the Bad value of an operation that fails first.
+pub fn typed_operations_keep_their_types()
+    ensures { (texts : List (List ℕ)) (patterns : List TextPattern) (fails : BadKind → Plain) → ((why : BadKind) → type_of (fails why) ≡ None)
+        → (o : Op) (types : List ValueType) (gives : ValueType) (values : List Plain)
+        → Takes patterns o types gives → AllZip IsOfType types values → IsOfType gives (operate texts patterns fails o values) }
 {}

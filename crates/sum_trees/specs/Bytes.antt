@@ -1,31 +1,10 @@
 -- The bytes of a tree's text: white space, names and numbers.
-use Rattle.std.specs.Prelude.{ℕ, ℤ, ◌+◌, ◌-◌, ◌*◌, Bool, false, ◌&&◌, ◌||◌, ◌==◌, nat_le, if◌then◌else◌, List, [], ◌∷◌, drop, zero, suc, take_while, pos, negsuc}
-use Rattle.std.specs.List.{prefix_len}
+use Rattle.std.specs.Prelude.{ℕ, ℤ, ◌+◌, ◌-◌, ◌*◌, Bool, ◌||◌, ◌==◌, if◌then◌else◌, List, [], ◌∷◌, drop, zero, suc, take_while, pos, negsuc}
+pub use Rattle.lido_base.specs.Bytes.{is_digit, is_letter, is_name_byte, behind, first_is}
 
--- space, tab, carriage return and line feed
+-- White space of a tree: space, tab, carriage return and line feed. A form feed is none here.
 abbrev pub is_white : ℕ → Bool
 is_white b = b == 32 || (b == 9 || (b == 13 || b == 10))
-
--- a decimal digit
-abbrev pub is_digit : ℕ → Bool
-is_digit b = nat_le 48 b && nat_le b 57
-
--- a letter or an underscore
-abbrev pub is_letter : ℕ → Bool
-is_letter b = (nat_le 65 b && nat_le b 90) || ((nat_le 97 b && nat_le b 122) || b == 95)
-
--- what a name may have behind its first letter
-abbrev pub is_name_byte : ℕ → Bool
-is_name_byte b = is_letter b || is_digit b
-
--- what is behind the front that passes the test
-abbrev pub behind : (ℕ → Bool) → List ℕ → List ℕ
-behind p bytes = drop (prefix_len p bytes) bytes
-
--- the first byte is there and passes the test
-abbrev pub first_is : (ℕ → Bool) → List ℕ → Bool
-first_is p [] = false
-first_is p (b ∷ bytes) = p b
 
 -- the sign of a negative number
 abbrev pub is_minus : ℕ → Bool

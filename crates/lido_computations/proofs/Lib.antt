@@ -3,3 +3,4 @@ pub mod PlacesLemmas
 pub mod ExpressionsLemmas
 pub mod FunctionsLemmas
 pub mod ComputationsLemmas
+pub mod MessagesLemmas

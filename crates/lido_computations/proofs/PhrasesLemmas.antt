@@ -83,7 +83,7 @@ ends x N c d ts us l = l.finds x us (empty_finds (Done x) c us x (λ vs. record 
 
 -- ---- one of several phrases
 
-same_start : (ts taken rest vs : List Token) → ts ≡ taken ++ rest → SameHead rest vs → SameHead ts (taken ++ vs)
+pub same_start : (ts taken rest vs : List Token) → ts ≡ taken ++ rest → SameHead rest vs → SameHead ts (taken ++ vs)
 same_start ts [] rest vs e s = subst (λ z. SameHead z vs) (sym e) s
 same_start ts (t ∷ taken) rest vs e s = subst (λ z. SameHead z (t ∷ taken ++ vs)) (sym e) refl
 
@@ -314,7 +314,7 @@ same_wider c us h = h
 pub done_stops : {A X : Type 0} (goes c : Token → Bool) (f : A → X) → IsWider goes c → Stops goes c (λ a. Done (f a))
 done_stops goes c f wider a us vs x d h = subst (GoesOn c) (sym d.behind) (wider us h)
 
-sees_goes : (k : TokenKind) (goes : Token → Bool) → ((t : Token) → t.what ≡ k → IsTrue (goes t) → ⊥) → (us vs : List Token) (t : Token) → Sees k us t vs → GoesOn goes us → ⊥
+pub sees_goes : (k : TokenKind) (goes : Token → Bool) → ((t : Token) → t.what ≡ k → IsTrue (goes t) → ⊥) → (us vs : List Token) (t : Token) → Sees k us t vs → GoesOn goes us → ⊥
 sees_goes k goes differs us vs t (token e) h = differs t e h
 
 -- a token comes next that does not continue the part before it

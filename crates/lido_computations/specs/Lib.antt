@@ -5,3 +5,4 @@ pub mod Expressions
 pub mod Parts
 pub mod Functions
 pub mod Computations
+pub mod Messages

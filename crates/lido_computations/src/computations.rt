@@ -20,7 +20,7 @@ use lido_syntax::{Comp, Expr, Target};
 use std::alloc::Global;
 
 /// How many operators, calls and opening parentheses a computation may have.
-const MOST_OPERATORS: u32 = 1000;
+pub(crate) const MOST_OPERATORS: u32 = 1000;
 
 /// A dependency, and the number behind it.
 fn dependency(
@@ -88,7 +88,7 @@ fn dependencies(
 }
 
 /// The dependencies behind an arrow, if one comes next, and the number behind them.
-fn dependencies_after(
+pub(crate) fn dependencies_after(
     alloc: Global,
     number: u32,
     tokens: &[Token],
@@ -121,7 +121,7 @@ fn target(tokens: &[Token], end: u32) -> Result<((u32, Target), &[Token]), ReadS
 }
 
 /// The expression of the computation that has this number.
-fn value<'a>(
+pub(crate) fn value<'a>(
     alloc: Global,
     number: u32,
     tokens: &'a [Token],

@@ -5,15 +5,17 @@ use Rattle.lido_base.specs.Plain.{Plain, Void}
 use Rattle.lido_base.specs.Tree.{Tree}
 use Rattle.lido_syntax.specs.declared.spec.Spec.{Spec}
 use Rattle.lido_syntax.specs.declared.spec.Comp.{Comp}
+use Rattle.lido_syntax.specs.declared.spec.Expr.{Expr}
 use Rattle.lido_syntax.specs.declared.spec.RuleItem.{RuleItem}
 use Rattle.lido_syntax.specs.Production.{left_of, name_of}
 use Rattle.lido_syntax.specs.Assignment.{Assignment, Behind, value_at}
 use Rattle.lido_base.specs.Environment.{Environment}
 use Rattle.lido_syntax.specs.Sets.{Sets}
-use Rattle.lido_syntax.specs.Computation.{Goal, Start, InForce}
+use Rattle.lido_syntax.specs.Computation.{Goal, Holder, Start, InForce}
 use Rattle.lido_syntax.specs.Completeness.{IsSingle}
 use Rattle.lido_syntax.specs.Nodes.{IsAt, InForceAt}
-use Rattle.lido_syntax.specs.Chains.{value_by, IsStart, IsEntry, IsTail, IsComputed}
+use Rattle.lido_syntax.specs.Chains.{value_by, IsStart, IsEntry, IsTail, IsValue}
+use Rattle.lido_syntax.specs.Value.{value}
 use Rattle.lido_syntax.proofs.ComputationLemmas.{one_in_force}
 use Rattle.lido_syntax.proofs.ExpressionLemmas.{same_value}
 
@@ -49,22 +51,22 @@ module _ (spec : Spec) (t : Tree Plain) where
   at_rule n r q (i, e, f) (j, g, h) = cc
 
 module _ (spec : Spec) (single : IsSingle spec) (sets : Sets spec) (env : Environment) (t : Tree Plain) (A : Assignment) where
-  same_in_force : (n : ℕ) (goal : Goal) (c d : Comp) → InForceAt spec t n goal c → InForceAt spec t n goal d → c ≡ d
-  same_in_force n goal c d (r, h, (i, e, f), a) (q, k, at, b) =
+  same_in_force : (n : ℕ) (goal : Goal) (h k : Holder) (c d : Comp) → InForceAt spec t n goal h c → InForceAt spec t n goal k d → (h ≡ k) × (c ≡ d)
+  same_in_force n goal h k c d (r, (i, e, f), a) (q, at, b) =
       let same : q ≡ r = at_rule spec t n q r at (i, e, f) in
-      (one_in_force spec single r (slice_get-contains spec.rules i r f) 0 (left_of r) goal h k c d a (subst (λ q. InForce spec q 0 (left_of q) goal k d) same b)).1
+      one_in_force spec single r (slice_get-contains spec.rules i r f) 0 (left_of r) goal h k c d a (subst (λ q. InForce spec q 0 (left_of q) goal k d) same b)
 
   same_start : (c n : ℕ) (v w : Plain) → IsStart spec sets env t A c n v → IsStart spec sets env t A c n w → v ≡ w
-  same_start c n v w (x, r, f, at, e) (y, q, g, at', e') =
+  same_start c n v w (h, x, r, f, at, e) (k, y, q, g, at', e') =
       let rules : r ≡ q = at_rule spec t n r q at at' in
-      let comps : x ≡ y = same_in_force n (Start c) x y f g in
-      let values : value_by spec sets env t A (λ chain. Void) n r x ≡ value_by spec sets env t A (λ chain. Void) n q y = λ i. value_by spec sets env t A (λ chain. Void) n (rules i) (comps i) in
+      let same : (h ≡ k) × (x ≡ y) = same_in_force n (Start c) h k x y f g in
+      let values : value_by spec sets env t A (λ chain. Void) n h r x ≡ value_by spec sets env t A (λ chain. Void) n k q y = λ i. value_by spec sets env t A (λ chain. Void) n (same.0 i) (rules i) (same.1 i) in
       e ∙ values ∙ sym e'
 
   same_entry : (c n : ℕ) (v w : Plain) → IsEntry spec sets env t A c n v → IsEntry spec sets env t A c n w → v ≡ w
   same_entry c n v w (inl a) (inl b) = same_start c n v w a b
-  same_entry c n v w (inl a) (inr b) = absurd (b.0 (a.0, a.2))
-  same_entry c n v w (inr a) (inl b) = absurd (a.0 (b.0, b.2))
+  same_entry c n v w (inl a) (inr b) = absurd (b.0 (a.0, a.1, a.3))
+  same_entry c n v w (inr a) (inl b) = absurd (a.0 (b.0, b.1, b.3))
   same_entry c n v w (inr a) (inr b) = a.1 ∙ sym b.1
 
   same_tail : (c n : ℕ) (v w : Plain) → IsTail spec sets env t A c n v → IsTail spec sets env t A c n w → v ≡ w
@@ -73,9 +75,10 @@ module _ (spec : Spec) (single : IsSingle spec) (sets : Sets spec) (env : Enviro
   same_tail c n v w (inr (e, a)) (inl (ys, y, g, h)) = absurd (no_last ys y (sym e ∙ g))
   same_tail c n v w (inr (e, a)) (inr (g, b)) = same_entry c n v w a b
 
-  pub one_value : (n : ℕ) (comp : Comp) (v w : Plain) → IsComputed spec sets env t A n comp v → IsComputed spec sets env t A n comp w → v ≡ w
-  one_value n comp v w (r, f, at, tails, e) (q, g, at', tails', e') =
+  pub one_value : (n : ℕ) (h : Holder) (number : ℕ) (x : Expr) (v w : Plain) → IsValue spec sets env t A n h number x v → IsValue spec sets env t A n h number x w → v ≡ w
+  one_value n h number x v w (r, f, at, tails, e) (q, g, at', tails', e') =
       let rules : r ≡ q = at_rule spec t n r q at at' in
-      let asks : value_by spec sets env t A f n r comp ≡ value_by spec sets env t A g n r comp = same_value spec sets env t A r comp.number n f g comp.value (λ x m. same_tail (name_of x) n _ _ (tails (name_of x) (x, m, refl)) (tails' (name_of x) (x, m, refl))) in
-      let values : value_by spec sets env t A g n r comp ≡ value_by spec sets env t A g n q comp = λ i. value_by spec sets env t A g n (rules i) comp in
+      let asks : value spec sets env t A h r number n f x ≡ value spec sets env t A h r number n g x =
+          same_value spec sets env t A h r number n f g x (λ c m. same_tail (name_of c) n _ _ (tails (name_of c) (c, m, refl)) (tails' (name_of c) (c, m, refl))) in
+      let values : value spec sets env t A h r number n g x ≡ value spec sets env t A h q number n g x = λ i. value spec sets env t A h (rules i) number n g x in
       e ∙ asks ∙ values ∙ sym e'

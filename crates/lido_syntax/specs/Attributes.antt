@@ -16,8 +16,9 @@ use Rattle.lido_syntax.specs.declared.spec.Target.{Target}
 use Rattle.lido_syntax.specs.declared.spec.Target.TheVariants as target
 use Rattle.lido_syntax.specs.declared.spec.Place.{Place}
 use Rattle.lido_syntax.specs.declared.spec.Place.TheVariants as place
-use Rattle.lido_syntax.specs.declared.spec.Expr.{Expr, Int, Str, Bool, Terminal, Read, Including, Constituents, Call', Row_of-Expr, end_of-Expr, more_of-Expr}
-use Rattle.lido_syntax.specs.Production.{name_of, left_of, right_of, occurrence, places_from}
+use Rattle.lido_syntax.specs.declared.spec.Expr.{Expr, Read, Including, Constituents}
+use Rattle.lido_syntax.specs.Production.{name_of, symbols_of, occurrence, places_from}
+use Rattle.lido_syntax.specs.Parts.{parts, expressions_of}
 use Rattle.lido_syntax.specs.Symbols.{IsChain}
 use Rattle.lido_syntax.specs.Sets.{names_of, Inherits}
 
@@ -29,30 +30,25 @@ Use = Place × Name
 abbrev pub use_of_pair : Pair → Use
 use_of_pair p = (place.Named p.sym None, p.attr)
 
+-- what a part of an expression reads by itself
+abbrev pub uses_of_part : Expr → List Use
+uses_of_part (Read at p a) = (p, a) ∷ []
+uses_of_part (Including at pairs) = map use_of_pair pairs
+uses_of_part (Constituents k) = map use_of_pair k.pairs
+uses_of_part _ = []
+
 -- all that an expression reads, in both branches of an IF
-abbrev mutual
-  pub reads : Expr → List Use
-  reads (Int at z) = []
-  reads (Str at s) = []
-  reads (Bool at b) = []
-  reads (Terminal x i) = []
-  reads (Read at p a) = (p, a) ∷ []
-  reads (Including at pairs) = map use_of_pair pairs
-  reads (Constituents k) = map use_of_pair k.pairs
-  reads (Call' f shape args) = reads_of_all args
+abbrev pub reads : Expr → List Use
+reads e = flat_map uses_of_part (parts e)
 
-  pub reads_of_all : {m : _} → Row_of-Expr m → List Use
-  reads_of_all end_of-Expr = []
-  reads_of_all (more_of-Expr e es) = reads e ++ reads_of_all es
-
--- what a target names: the start of a chain names no place
+-- what a target names: the start of a chain names no place, and a message nothing
 abbrev pub target_uses : Target → List Use
 target_uses (target.Attr p a) = (p, a) ∷ []
 target_uses _ = []
 
--- all that a computation names: its target, and what its expression and its dependencies read
+-- all that a computation names: its target, and what its expressions read, a message's condition and the dependencies too
 abbrev pub uses : Comp → List Use
-uses c = target_uses c.target ++ reads c.value ++ flat_map reads c.after
+uses c = target_uses c.target ++ flat_map reads (expressions_of c)
 
 -- the places of a symbol's body that mean the symbol itself
 abbrev pub IsOwn : Place → Type 0
@@ -63,7 +59,7 @@ IsOwn _ = ⊥
 
 -- The occurrences that a name can mean: the one that it means, or where its index is faulty all that the name has, in a list rule among the elements too.
 abbrev pub possible : RuleItem → Name → Option ℤ → List ℕ
-possible r x i = elim (occurrence r x i) [ Some k ↦ k ∷ [] | None ↦ places_from 0 (name_of x) (left_of r ∷ right_of r) ]
+possible r x i = elim (occurrence r x i) [ Some k ↦ k ∷ [] | None ↦ places_from 0 (name_of x) (symbols_of r) ]
 
 -- All occurrences that the name can mean are on that side: the left side is occurrence 0 alone, and they ascend.
 abbrev pub IsOnSide : Kind → List ℕ → Type 0

@@ -6,9 +6,10 @@ use Rattle.lido_base.specs.Operations.{kept}
 use Rattle.lido_base.specs.Tree.{Tree}
 use Rattle.lido_syntax.specs.declared.spec.Spec.{Spec}
 use Rattle.lido_syntax.specs.declared.spec.Comp.{Comp}
-use Rattle.lido_syntax.specs.Symbols.{IsChain}
+use Rattle.lido_syntax.specs.Symbols.{IsChain, IsTypedChain}
 use Rattle.lido_syntax.specs.Assignment.{Assignment, Slot, Attribute, Front, Behind}
 use Rattle.lido_syntax.specs.Attributes.{Has, HasType}
+use Rattle.lido_syntax.specs.Computation.{Holder}
 use Rattle.lido_base.specs.Environment.{Environment}
 use Rattle.lido_syntax.specs.Nodes.{HasSymbol, IsUnder, Computes}
 use Rattle.lido_syntax.specs.Sets.{Sets}
@@ -29,9 +30,9 @@ module _ (spec : Spec) (sets : Sets spec) (env : Environment) (t : Tree Plain) w
   -- In a complete specification each attribute has a computation in force.
   pub record IsAttribution (A : Assignment) : Type 0 where
     pub domain : (n : ℕ) (slot : Slot) → IsSome (A n slot) ↔ IsInstance n slot
-    pub values : (n a s context : ℕ) (ty : ValueType) (c : Comp) → HasSymbol spec t n s → Has spec s a → HasType spec s a ty → Computes spec t n a context c
-        → (v : Plain) × IsComputed spec sets env t A context c v × (A n (Attribute a) ≡ Some (kept ty v))
-    pub chains : (c : ℕ) → IsChain spec c → IsThreaded spec sets env t A c
+    pub values : (n a s context : ℕ) (ty : ValueType) (h : Holder) (c : Comp) → HasSymbol spec t n s → Has spec s a → HasType spec s a ty → Computes spec t n a context h c
+        → (v : Plain) × IsComputed spec sets env t A context h c v × (A n (Attribute a) ≡ Some (kept ty v))
+    pub chains : (c : ℕ) (ty : ValueType) → IsTypedChain spec c ty → IsThreaded spec sets env t A c ty
 
   -- there is one attribution and no other
   abbrev pub HasOneAttribution : Type 0

@@ -24,9 +24,13 @@ module _ (spec : Spec) (sets : Sets spec) (env : Environment) (t : Tree Plain) (
     combined n [] = call with.null n []
     combined n (v ∷ vs) = call with.comb n (v ∷ combined n vs ∷ [])
 
-    -- the fold over the weights of those children whose symbol can reach a source
+    -- the fold, at node n, over the weights of those of these nodes whose symbol can reach a source
+    abbrev pub folded : (ℕ → Plain) → ℕ → List ℕ → Plain
+    folded weights n nodes = combined n (map weights (filter (λ c. sets.reaches k (symbol_at spec sets t c)) nodes))
+
+    -- the fold over the children
     abbrev pub below : (ℕ → Plain) → ℕ → Plain
-    below weights n = combined n (map weights (filter (λ c. sets.reaches k (symbol_at spec sets t c)) (children t n)))
+    below weights n = folded weights n (children t n)
 
     -- what a source gives, whose attribute is a: alone where it is a shield, else before what is below it
     abbrev pub source_weight : (ℕ → Plain) → ℕ → ℕ → Plain

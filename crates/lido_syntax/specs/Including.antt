@@ -17,6 +17,10 @@ module _ (spec : Spec) (sets : Sets spec) where
     abbrev pub symbol_at : ℕ → ℕ
     symbol_at n = unwrap_or (option_map left_of (option_and_then (slice_get spec.rules) (rule_at t n))) 0
 
+    -- the first of these nodes that is listed, with its listed attribute
+    abbrev pub nearest : List Pair → List ℕ → Option (ℕ × ℕ)
+    nearest pairs nodes = slice_get (filter_map (λ m. option_map (λ a. (m, a)) (listed pairs (symbol_at m))) nodes) 0
+
     -- the nearest strict ancestor that is listed, with its listed attribute
     abbrev pub up : List Pair → ℕ → Option (ℕ × ℕ)
-    up pairs n = slice_get (filter_map (λ m. option_map (λ a. (m, a)) (listed pairs (symbol_at m))) (ancestors t n)) 0
+    up pairs n = nearest pairs (ancestors t n)

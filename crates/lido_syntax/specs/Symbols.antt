@@ -1,5 +1,5 @@
 -- Nonterminals, terminals, the root and chains.
-use Rattle.std.specs.Prelude.{◌≡◌, ℕ, ◌⊎◌, map, flat_map, Contains, IsTrue}
+use Rattle.std.specs.Prelude.{◌≡◌, ℕ, ◌⊎◌, Bool, map, flat_map, Contains, IsTrue}
 use Rattle.lido_base.specs.declared.value.ValueType.{ValueType}
 use Rattle.lido_base.specs.declared.value.ValueType.TheVariants as type
 use Rattle.lido_base.specs.Tree.{contains}
@@ -9,8 +9,11 @@ use Rattle.lido_syntax.specs.Production.{name_of, left_of, right_of}
 
 module _ (spec : Spec) where
   -- a nonterminal stands on a left side
+  abbrev pub is_nonterminal : ℕ → Bool
+  is_nonterminal s = contains s (map left_of spec.rules)
+
   abbrev pub IsNonterminal : ℕ → Type 0
-  IsNonterminal s = IsTrue (contains s (map left_of spec.rules))
+  IsNonterminal s = IsTrue (is_nonterminal s)
 
   -- some right side has the symbol
   abbrev pub IsOnRightSide : ℕ → Type 0
@@ -31,3 +34,7 @@ module _ (spec : Spec) where
   -- CHAIN declares the name
   abbrev pub IsChain : ℕ → Type 0
   IsChain c = IsTrue (contains c (map (λ x. name_of x.name) spec.chains))
+
+  -- CHAIN declares the name, with this type
+  abbrev pub IsTypedChain : ℕ → ValueType → Type 0
+  IsTypedChain c ty = (x : Typed1) × Contains spec.chains x × (name_of x.name ≡ c) × (x.ty ≡ ty)

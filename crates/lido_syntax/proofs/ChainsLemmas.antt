@@ -41,7 +41,7 @@ no_last (a ∷ xs) x e = cc
 some_same : {X : Type 0} (x y : X) → Some x ≡ Some y → x ≡ y
 some_same x y e = cc
 
-slice_get-contains : {X : Type 0} (xs : List X) (i : ℕ) (x : X) → slice_get xs i ≡ Some x → Contains xs x
+pub slice_get-contains : {X : Type 0} (xs : List X) (i : ℕ) (x : X) → slice_get xs i ≡ Some x → Contains xs x
 slice_get-contains [] i x e = cc
 slice_get-contains (y ∷ ys) zero x e = (0, (omega arith), some_same y x e)
 slice_get-contains (y ∷ ys) (suc i) x e = let k = slice_get-contains ys i x e in (suc k.0, (omega (arith, k.1)), k.2)
@@ -79,6 +79,6 @@ module _ (spec : Spec) (single : IsSingle spec) (sets : Sets spec) (env : Enviro
   one_value n h number x v w (r, f, at, tails, e) (q, g, at', tails', e') =
       let rules : r ≡ q = at_rule spec t n r q at at' in
       let asks : value spec sets env t A h r number n f x ≡ value spec sets env t A h r number n g x =
-          same_value spec sets env t A h r number n f g x (λ c m. same_tail (name_of c) n _ _ (tails (name_of c) (c, m, refl)) (tails' (name_of c) (c, m, refl))) in
+      same_value spec sets env t A h r number n f g x (λ c m. same_tail (name_of c) n _ _ (tails (name_of c) (c, m, refl)) (tails' (name_of c) (c, m, refl))) in
       let values : value spec sets env t A h r number n g x ≡ value spec sets env t A h q number n g x = λ i. value spec sets env t A h (rules i) number n g x in
       e ∙ asks ∙ values ∙ sym e'

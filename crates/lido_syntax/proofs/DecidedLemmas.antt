@@ -1,5 +1,5 @@
 -- Whether a computation is in force can be decided, so each expression of a computation has a value at each node that has a rule.
-use Rattle.std.specs.Prelude.{Contains, Bool, true, false, IsTrue, ◌||◌, ◌&&◌, nat_eq, map, flat_map, filter, slice_get, if◌then◌else◌, MatchBool}
+use Rattle.std.specs.Prelude.{Contains, Bool, true, false, IsTrue, ◌||◌, nat_eq, map, flat_map, filter, slice_get, if◌then◌else◌, MatchBool}
 use Rattle.std.proofs.Common.{◌≡◌, ℕ, zero, suc, ◌⊎◌, inl, inr, List, [], ◌∷◌, ◌++◌, Option, Some, None, refl, arith, ap, subst, sym, ◌∙◌, eqb-true, eq-eqb}
 use Rattle.lido_base.specs.Environment.{Environment}
 use Rattle.lido_base.specs.Plain.{Plain, Void}
@@ -13,7 +13,6 @@ use Rattle.lido_syntax.specs.declared.spec.SymbolItem.{SymbolItem}
 use Rattle.lido_syntax.specs.declared.spec.Typed1.{Typed1}
 use Rattle.lido_syntax.specs.declared.spec.Target.{Target}
 use Rattle.lido_syntax.specs.declared.spec.Target.TheVariants as target
-use Rattle.lido_syntax.specs.declared.spec.Place.{Place}
 use Rattle.lido_syntax.specs.declared.spec.Place.TheVariants as place
 use Rattle.lido_syntax.specs.Production.{name_of, left_of, right_of, occurrence, CanStandAt}
 use Rattle.lido_syntax.specs.Symbols.{IsChain}
@@ -22,7 +21,7 @@ use Rattle.lido_syntax.specs.Assignment.{Assignment, Front, Behind, value_at}
 use Rattle.lido_syntax.specs.Computation.{Goal, Synthesized, Inherited, Start, Output, Message, Holder, by_rule, by_symbol, is_message, messages_of, IsGoalAt, IsGoalOf, InForce, of_rule, of_symbol, of_class, IsRuleTarget, IsSymbolTarget, InSymbol, HasInRule, HasInSymbol, IsLeft, HasComputation}
 use Rattle.lido_syntax.specs.Computation as goals
 use Rattle.lido_syntax.specs.Nodes.{IsAt, InForceAt, HasInForce}
-use Rattle.lido_syntax.specs.Chains.{IsStart, IsEntry, IsTail, IsValue, value_by}
+use Rattle.lido_syntax.specs.Chains.{IsEntry, IsTail, IsValue, value_by}
 use Rattle.lido_syntax.specs.Value.{value}
 
 -- it is so or it isn't
@@ -143,7 +142,7 @@ module _ (spec : Spec) where
   message_target r c j e t f h = cc
 
   -- a message is one of the rule's plain computations, at the left side
-  from_message : (r : RuleItem) (c : Comp) (t : Target) (k j : ℕ) → IsRuleTarget spec r c t k (Message j) → (i : ℕ) × (k ≡ 0) × (j ≡ suc i) × (slice_get (messages_of r) i ≡ Some c)
+  pub from_message : (r : RuleItem) (c : Comp) (t : Target) (k j : ℕ) → IsRuleTarget spec r c t k (Message j) → (i : ℕ) × (k ≡ 0) × (j ≡ suc i) × (slice_get (messages_of r) i ≡ Some c)
   from_message r c (target.Message s e) zero (suc i) h = (i, refl, refl, h)
   from_message r c (target.Message s e) zero zero h = absurd h
   from_message r c (target.Message s e) (suc k) j h = absurd h

@@ -1,6 +1,5 @@
 -- What expressions and computations are made of: the walk that all who name, number or type its parts go by.
-use Rattle.std.specs.Prelude.{ℕ, ℤ, Bool, true, false, not, List, [], ◌∷◌, ◌++◌, flat_map, filter, Option, Some, None}
-use Rattle.lido_syntax.specs.declared.spec.Name.{Name}
+use Rattle.std.specs.Prelude.{Bool, true, false, List, [], ◌∷◌, ◌++◌, flat_map, filter, Some}
 use Rattle.lido_syntax.specs.declared.spec.Comp.{Comp}
 use Rattle.lido_syntax.specs.declared.spec.Target.{Target}
 use Rattle.lido_syntax.specs.declared.spec.Target.TheVariants as target

@@ -185,7 +185,7 @@ pub five_computes : InSymbol spec Five (goals.Inherited i) five
 five_computes = (in_class, refl)
 
 pub none_at_the_second : (a : ℕ) → ¬ HasInRule spec top_rule 2 (goals.Inherited a)
-none_at_the_second a (c, h) = every (λ (c : Comp). ¬ IsRuleTarget spec top_rule c.target 2 (goals.Inherited a)) top_rule.body ((λ h. let wrong = h.0 in cc), ((λ h. h), tt)) c h.0 h.1
+none_at_the_second a (c, h) = every (λ (c : Comp). ¬ IsRuleTarget spec top_rule c c.target 2 (goals.Inherited a)) top_rule.body ((λ h. let wrong = h.0 in cc), ((λ h. h), tt)) c h.0 h.1
 
 none_of_its_own : (goal : Goal) → ¬ HasInSymbol spec Right goal
 none_of_its_own goal (c, (body, h)) = apart Right Five Right refl (in_body Right c body).0 refl
@@ -198,28 +198,28 @@ five_left = record {
 }
 
 pub five_in_force : InForce spec top_rule 2 Right (goals.Inherited i) by_symbol five
-five_in_force = of_class Five (none_at_the_second i) (none_of_its_own (goals.Inherited i)) five_left (λ other k. (inherits Right other k.inherited).1) five_computes
+five_in_force = of_class Five (refl, tt) (none_at_the_second i) (none_of_its_own (goals.Inherited i)) five_left (λ other k. (inherits Right other k.inherited).1) five_computes
 
 pub three_in_force : InForce spec top_rule 1 Left (goals.Inherited i) by_rule three
-three_in_force = of_rule ((0, omega arith, refl), (refl, refl))
+three_in_force = of_rule (refl, tt) ((0, omega arith, refl), (refl, refl))
 
 pub quotient_in_force : InForce spec right_rule 1 Left (goals.Inherited i) by_rule quotient
-quotient_in_force = of_rule ((0, omega arith, refl), (refl, refl))
+quotient_in_force = of_rule (refl, tt) ((0, omega arith, refl), (refl, refl))
 
 -- who computes what: a rule's own computation, or that of the class
 of_the_rule : (r : RuleItem) (k s : ℕ) (goal : Goal) (h : Holder) (c : Comp) → InForce spec r k s goal h c → h ≡ by_rule → InRule spec r k goal c
-of_the_rule r k s goal _ c (of_rule a) e = a
-of_the_rule r k s goal _ c (of_symbol none a) e = cc
-of_the_rule r k s goal _ c (of_class class none own left one a) e = cc
+of_the_rule r k s goal _ c (of_rule is a) e = a
+of_the_rule r k s goal _ c (of_symbol is none a) e = cc
+of_the_rule r k s goal _ c (of_class class is none own left one a) e = cc
 
 of_a_symbol : (r : RuleItem) (k s : ℕ) (goal : Goal) (h : Holder) (c : Comp) → InForce spec r k s goal h c → h ≡ by_symbol → (c ≡ five) × IsSymbolTarget spec c.target goal × ((s ≡ Five) ⊎ (s ≡ Right))
-of_a_symbol r k s goal _ c (of_rule a) e = cc
-of_a_symbol r k s goal _ c (of_symbol none (body, h)) e = let is = in_body s c body in (is.1, h, inl is.0)
-of_a_symbol r k s goal _ c (of_class class none own left one (body, h)) e = ((in_body class c body).1, h, inr (inherits s class left.inherited).0)
+of_a_symbol r k s goal _ c (of_rule is a) e = cc
+of_a_symbol r k s goal _ c (of_symbol is none (body, h)) e = let is = in_body s c body in (is.1, h, inl is.0)
+of_a_symbol r k s goal _ c (of_class class is none own left one (body, h)) e = ((in_body class c body).1, h, inr (inherits s class left.inherited).0)
 
-not_synthesized : (a : ℕ) (c : Comp) (r : RuleItem) → AllByRecursion (λ (c : Comp). ¬ IsRuleTarget spec r c.target 0 (goals.Synthesized a)) r.body → (h : Holder) → ¬ InForce spec r 0 (left_of r) (goals.Synthesized a) h c
+pub not_synthesized : (a : ℕ) (c : Comp) (r : RuleItem) → AllByRecursion (λ (c : Comp). ¬ IsRuleTarget spec r c c.target 0 (goals.Synthesized a)) r.body → (h : Holder) → ¬ InForce spec r 0 (left_of r) (goals.Synthesized a) h c
 not_synthesized a c r none by_rule force = let own = of_the_rule r 0 (left_of r) (goals.Synthesized a) by_rule c force refl in
-    every (λ (c : Comp). ¬ IsRuleTarget spec r c.target 0 (goals.Synthesized a)) r.body none c own.0 own.1
+    every (λ (c : Comp). ¬ IsRuleTarget spec r c c.target 0 (goals.Synthesized a)) r.body none c own.0 own.1
 not_synthesized a c r none by_symbol force = let own = of_a_symbol r 0 (left_of r) (goals.Synthesized a) by_symbol c force refl in
     subst (λ c. ¬ IsSymbolTarget spec c.target (goals.Synthesized a)) (sym own.0) (λ h. h) own.1
 
@@ -229,39 +229,39 @@ child m = Some (Child m)
 child_same : (m n : ℕ) → child m ≡ child n → m ≡ n
 child_same m n e = cc
 
-module _ (P : ℕ → ℕ → Comp → Type 0) (first : P 1 0 three) (second : P 2 2 five) (third : P 3 2 quotient) (m a : ℕ) (c : Comp) where
-  at_top : (k : ℕ) → IsChild spec tree 0 k m → InRule spec top_rule k (goals.Inherited a) c → P m 0 c
+module _ (P : ℕ → ℕ → Holder → Comp → Type 0) (first : P 1 0 by_rule three) (second : P 2 2 by_symbol five) (third : P 3 2 by_rule quotient) (m a : ℕ) (c : Comp) where
+  at_top : (k : ℕ) → IsChild spec tree 0 k m → InRule spec top_rule k (goals.Inherited a) c → P m 0 by_rule c
   at_top zero child h = cc
-  at_top (suc zero) child h = every (λ (c : Comp). IsRuleTarget spec top_rule c.target 1 (goals.Inherited a) → P m 0 c) top_rule.body
-      ((λ h. subst (λ m. P m 0 three) (child_same 1 m child) first), ((λ h. absurd h), tt)) c h.0 h.1
-  at_top (suc (suc k)) child h = absurd (every (λ (c : Comp). ¬ IsRuleTarget spec top_rule c.target (suc (suc k)) (goals.Inherited a)) top_rule.body
+  at_top (suc zero) child h = every (λ (c : Comp). IsRuleTarget spec top_rule c c.target 1 (goals.Inherited a) → P m 0 by_rule c) top_rule.body
+      ((λ h. subst (λ m. P m 0 by_rule three) (child_same 1 m child) first), ((λ h. absurd h), tt)) c h.0 h.1
+  at_top (suc (suc k)) child h = absurd (every (λ (c : Comp). ¬ IsRuleTarget spec top_rule c c.target (suc (suc k)) (goals.Inherited a)) top_rule.body
       ((λ h. let wrong = h.0 in cc), ((λ h. h), tt)) c h.0 h.1)
 
-  at_right : (k : ℕ) → IsChild spec tree 2 k m → InRule spec right_rule k (goals.Inherited a) c → P m 2 c
+  at_right : (k : ℕ) → IsChild spec tree 2 k m → InRule spec right_rule k (goals.Inherited a) c → P m 2 by_rule c
   at_right zero child h = cc
-  at_right (suc zero) child h = every (λ (c : Comp). IsRuleTarget spec right_rule c.target 1 (goals.Inherited a) → P m 2 c) right_rule.body
-      ((λ h. subst (λ m. P m 2 quotient) (child_same 3 m child) third), tt) c h.0 h.1
+  at_right (suc zero) child h = every (λ (c : Comp). IsRuleTarget spec right_rule c c.target 1 (goals.Inherited a) → P m 2 by_rule c) right_rule.body
+      ((λ h. subst (λ m. P m 2 by_rule quotient) (child_same 3 m child) third), tt) c h.0 h.1
   at_right (suc (suc k)) child h = cc
 
   -- what holds of each computation at its node and context
-  pub computed : (context : ℕ) → Computes spec tree m a context c → P m context c
-  computed _ (nodes.synthesized (r, h, at, force)) = absurd (by_node (λ m r. ¬ InForce spec r 0 (left_of r) (goals.Synthesized a) h c)
+  pub computed : (context : ℕ) (h : Holder) → Computes spec tree m a context h c → P m context h c
+  computed _ h (nodes.synthesized (r, at, force)) = absurd (by_node (λ m r. ¬ InForce spec r 0 (left_of r) (goals.Synthesized a) h c)
       (not_synthesized a c top_rule ((λ h. let wrong = h.0 in cc), ((λ h. h), tt)) h)
       (not_synthesized a c left_rule tt h)
       (not_synthesized a c right_rule ((λ h. let wrong = h.0 in cc), tt) h)
       (not_synthesized a c left_rule tt h) m r at force)
-  computed _ (nodes.inherited_of_rule p k s r child at hs force) =
-      by_node (λ p r. IsChild spec tree p k m → InRule spec r k (goals.Inherited a) c → P m p c)
+  computed _ _ (nodes.inherited_of_rule p k s r child at hs force) =
+      by_node (λ p r. IsChild spec tree p k m → InRule spec r k (goals.Inherited a) c → P m p by_rule c)
       (at_top k) (λ child h. absurd (omega (arith, h.0.1))) (at_right k) (λ child h. absurd (omega (arith, h.0.1)))
       p r at child (of_the_rule r k s (goals.Inherited a) by_rule c force refl)
-  computed _ (nodes.inherited_of_symbol p k s r child at hs force) = go (of_a_symbol r k s (goals.Inherited a) by_symbol c force refl)
+  computed _ _ (nodes.inherited_of_symbol p k s r child at hs force) = go (of_a_symbol r k s (goals.Inherited a) by_symbol c force refl)
     where
-      go : (c ≡ five) × IsSymbolTarget spec c.target (goals.Inherited a) × ((s ≡ Five) ⊎ (s ≡ Right)) → P m m c
+      go : (c ≡ five) × IsSymbolTarget spec c.target (goals.Inherited a) × ((s ≡ Five) ⊎ (s ≡ Right)) → P m m by_symbol c
       go (e, h, inl f) = absurd (no_class m s hs f)
-      go (e, h, inr f) = subst (λ m. P m m c) (sym (is_right m s hs f)) (subst (P 2 2) (sym e) second)
+      go (e, h, inr f) = subst (λ m. P m m by_symbol c) (sym (is_right m s hs f)) (subst (P 2 2 by_symbol) (sym e) second)
 
-pub computed_at_right : (context : ℕ) (c : Comp) → Computes spec tree 2 i context c → (context ≡ 2) × (c ≡ five)
-computed_at_right context c h = computed (λ m context c. m ≡ 2 → (context ≡ 2) × (c ≡ five)) (λ e. cc) (λ e. (refl, refl)) (λ e. cc) 2 i c context h refl
+pub computed_at_right : (context : ℕ) (h : Holder) (c : Comp) → Computes spec tree 2 i context h c → (context ≡ 2) × (h ≡ by_symbol) × (c ≡ five)
+computed_at_right context h c computes = computed (λ m context h c. m ≡ 2 → (context ≡ 2) × (h ≡ by_symbol) × (c ≡ five)) (λ e. cc) (λ e. (refl, refl, refl)) (λ e. cc) 2 i c context h computes refl
 
 -- no expression reads TAIL
 abbrev pub IsNoTail : Place → Type 0

@@ -2,6 +2,7 @@ pub mod RulesOnly
 pub mod Members
 pub mod Classes
 pub mod Tables
+pub mod MessageLemmas
 pub mod SumOfItemsLemmas
 pub mod NestedStartLemmas
 pub mod NumberedListLemmas

@@ -11,7 +11,7 @@ use Rattle.lido_syntax.specs.declared.spec.RuleItem.{RuleItem}
 use Rattle.lido_syntax.specs.Attributes.{Use, reads}
 use Rattle.lido_syntax.proofs.ExpressionLemmas.{reads-Call}
 use Rattle.lido_syntax.specs.Production.{left_of}
-use Rattle.lido_syntax.specs.Computation.{Goal, Start, Behind, by_rule, of_rule, InRule, IsRuleTarget}
+use Rattle.lido_syntax.specs.Computation.{Goal, Holder, Start, Behind, by_rule, of_rule, InRule, IsRuleTarget}
 use Rattle.lido_syntax.specs.Nodes.{IsAt, InForceAt, HasInForce}
 use Rattle.trials_of_syntax.specs.NestedStart.{spec, tree, top_rule, item_rule, sub_rule, group_rule, from_one, from_ten, next, no, text}
 use Rattle.trials_of_syntax.proofs.Members.{every, some_same}
@@ -33,29 +33,29 @@ by_node P a b c d e f g m r at = go m (rule_of spec.rules spec.attrs spec.terms 
 
 -- a computation in force on a left side is one of the rule's body
 abbrev pub Holds : (ℕ → Comp → Type 0) → Goal → ℕ → RuleItem → Type 0
-Holds P goal m r = AllByRecursion (λ (c : Comp). IsRuleTarget spec r c.target 0 goal → P m c) r.body
+Holds P goal m r = AllByRecursion (λ (c : Comp). IsRuleTarget spec r c c.target 0 goal → P m c) r.body
 
 pub in_force : (goal : Goal) (P : ℕ → Comp → Type 0) → Holds P goal 0 top_rule → Holds P goal 1 item_rule → Holds P goal 2 sub_rule → Holds P goal 3 group_rule → Holds P goal 4 item_rule → Holds P goal 5 item_rule → Holds P goal 6 item_rule
-    → (m : ℕ) (c : Comp) → InForceAt spec tree m goal c → P m c
-in_force goal P a b d e f g k m c (r, h, at, force) =
-    let parts : InRule spec r 0 goal c = (only_rules spec.rules spec.attrs spec.terms spec.chains r 0 (left_of r) goal h c force).1 in
-    every (λ (c : Comp). IsRuleTarget spec r c.target 0 goal → P m c) r.body (by_node (Holds P goal) a b d e f g k m r at) c parts.0 parts.1
+    → (m : ℕ) (h : Holder) (c : Comp) → InForceAt spec tree m goal h c → (h ≡ by_rule) × P m c
+in_force goal P a b d e f g k m h c (r, at, force) =
+    let parts : (h ≡ by_rule) × InRule spec r 0 goal c = only_rules spec.rules spec.attrs spec.terms spec.chains r 0 (left_of r) goal h c force in
+    (parts.0, every (λ (c : Comp). IsRuleTarget spec r c c.target 0 goal → P m c) r.body (by_node (Holds P goal) a b d e f g k m r at) c parts.1.0 parts.1.1)
 
 -- the chain starts at the list and at the group
 abbrev pub IsStartOf : ℕ → Comp → Type 0
 IsStartOf m c = ((m ≡ 0) × (c ≡ from_one)) ⊎ ((m ≡ 3) × (c ≡ from_ten))
 
-pub starts : (m : ℕ) (c : Comp) → InForceAt spec tree m (Start no) c → IsStartOf m c
+pub starts : (m : ℕ) (h : Holder) (c : Comp) → InForceAt spec tree m (Start no) h c → (h ≡ by_rule) × IsStartOf m c
 starts = in_force (Start no) IsStartOf ((λ h. inl (refl, refl)), ((λ h. absurd h), tt)) no_item (((λ h. absurd h), tt)) ((λ h. inr (refl, refl)), ((λ h. absurd h), tt)) no_item no_item no_item
   where
     no_item : {m : ℕ} → Holds IsStartOf (Start no) m item_rule
     no_item {m} = ((λ h. absurd h), ((λ h. absurd h), tt))
 
 pub start_at_top : HasInForce spec tree 0 (Start no)
-start_at_top = (from_one, (top_rule, by_rule, (0, refl, refl), of_rule ((0, omega arith, refl), refl)))
+start_at_top = (by_rule, from_one, (top_rule, (0, refl, refl), of_rule (refl, tt) ((0, omega arith, refl), refl)))
 
 pub start_at_group : HasInForce spec tree 3 (Start no)
-start_at_group = (from_ten, (group_rule, by_rule, (3, refl, refl), of_rule ((0, omega arith, refl), refl)))
+start_at_group = (by_rule, from_ten, (group_rule, (3, refl, refl), of_rule (refl, tt) ((0, omega arith, refl), refl)))
 
 -- an item that is a line assigns the chain, and nothing else does
 abbrev pub IsLine : ℕ → Type 0
@@ -64,7 +64,7 @@ IsLine m = (m ≡ 1) ⊎ ((m ≡ 4) ⊎ ((m ≡ 5) ⊎ (m ≡ 6)))
 abbrev pub IsNext : ℕ → Comp → Type 0
 IsNext m c = IsLine m × (c ≡ next)
 
-pub assigns : (m : ℕ) (c : Comp) → InForceAt spec tree m (Behind no) c → IsNext m c
+pub assigns : (m : ℕ) (h : Holder) (c : Comp) → InForceAt spec tree m (Behind no) h c → (h ≡ by_rule) × IsNext m c
 assigns = in_force (Behind no) IsNext ((λ h. absurd h), ((λ h. absurd h), tt)) (item 1 (inl refl)) ((λ h. text_is_no_chain h.1), tt) ((λ h. absurd h), ((λ h. text_is_no_chain h.1), tt))
     (item 4 (inr (inl refl))) (item 5 (inr (inr (inl refl)))) (item 6 (inr (inr (inr refl))))
   where
@@ -75,7 +75,7 @@ assigns = in_force (Behind no) IsNext ((λ h. absurd h), ((λ h. absurd h), tt))
     item m h = ((λ k. text_is_no_chain k.1), ((λ k. (h, refl)), tt))
 
 pub next_in_force : (m : ℕ) → IsAt spec tree m item_rule → HasInForce spec tree m (Behind no)
-next_in_force m at = (next, (item_rule, by_rule, at, of_rule ((1, omega arith, refl), (refl, refl, refl))))
+next_in_force m at = (by_rule, next, (item_rule, at, of_rule (refl, tt) ((1, omega arith, refl), (refl, refl, refl))))
 
 -- neighbours in a list
 abbrev pub EachNext : (ℕ → ℕ → Type 0) → List ℕ → Type 0
@@ -119,14 +119,14 @@ no_tail_in_next p x m = every (λ (u : Use). IsNoTail u.0) (reads next.value) al
     all = simp (reads-Call) (tt, tt)
 
 pub no_start_inside : ¬ HasInForce spec tree 2 (Start no)
-no_start_inside (c, f) = at (starts 2 c f)
+no_start_inside (h, c, f) = at (starts 2 h c f).1
   where
     at : ¬ IsStartOf 2 c
     at (inl h) = omega (arith, h.0)
     at (inr h) = omega (arith, h.0)
 
 pub group_unassigned : ¬ HasInForce spec tree 3 (Behind no)
-group_unassigned (c, f) = at (assigns 3 c f).0
+group_unassigned (h, c, f) = at (assigns 3 h c f).1.0
   where
     at : ¬ IsLine 3
     at (inl h) = omega (arith, h)

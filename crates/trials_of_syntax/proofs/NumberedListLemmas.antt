@@ -5,7 +5,7 @@ use Rattle.lido_base.specs.Tree.{rule_at}
 use Rattle.lido_syntax.specs.declared.spec.Comp.{Comp}
 use Rattle.lido_syntax.specs.declared.spec.RuleItem.{RuleItem}
 use Rattle.lido_syntax.specs.Production.{left_of}
-use Rattle.lido_syntax.specs.Computation.{Goal, Start, Behind, by_rule, of_rule, InRule, IsRuleTarget}
+use Rattle.lido_syntax.specs.Computation.{Goal, Holder, Start, Behind, by_rule, of_rule, InRule, IsRuleTarget}
 use Rattle.lido_syntax.specs.Nodes.{IsAt, InForceAt, HasInForce}
 use Rattle.trials_of_syntax.specs.NestedStart.{spec, top_rule, item_rule, from_one, next, no, text}
 use Rattle.trials_of_syntax.specs.NumberedList.{tree}
@@ -25,23 +25,23 @@ by_node P a b c d m r at = go m (rule_of spec.rules spec.attrs spec.terms spec.c
     go (suc (suc (suc (suc m)))) h = cc
 
 pub in_force : (goal : Goal) (P : ℕ → Comp → Type 0) → Holds P goal 0 top_rule → Holds P goal 1 item_rule → Holds P goal 2 item_rule → Holds P goal 3 item_rule
-    → (m : ℕ) (c : Comp) → InForceAt spec tree m goal c → P m c
-in_force goal P a b d e m c (r, h, at, force) =
-    let parts : InRule spec r 0 goal c = (only_rules spec.rules spec.attrs spec.terms spec.chains r 0 (left_of r) goal h c force).1 in
-    every (λ (c : Comp). IsRuleTarget spec r c.target 0 goal → P m c) r.body (by_node (Holds P goal) a b d e m r at) c parts.0 parts.1
+    → (m : ℕ) (h : Holder) (c : Comp) → InForceAt spec tree m goal h c → (h ≡ by_rule) × P m c
+in_force goal P a b d e m h c (r, at, force) =
+    let parts : (h ≡ by_rule) × InRule spec r 0 goal c = only_rules spec.rules spec.attrs spec.terms spec.chains r 0 (left_of r) goal h c force in
+    (parts.0, every (λ (c : Comp). IsRuleTarget spec r c c.target 0 goal → P m c) r.body (by_node (Holds P goal) a b d e m r at) c parts.1.0 parts.1.1)
 
 -- the chain starts at the list alone
 abbrev pub IsStartOf : ℕ → Comp → Type 0
 IsStartOf m c = (m ≡ 0) × (c ≡ from_one)
 
-pub starts : (m : ℕ) (c : Comp) → InForceAt spec tree m (Start no) c → IsStartOf m c
+pub starts : (m : ℕ) (h : Holder) (c : Comp) → InForceAt spec tree m (Start no) h c → (h ≡ by_rule) × IsStartOf m c
 starts = in_force (Start no) IsStartOf ((λ h. (refl, refl)), ((λ h. absurd h), tt)) no_item no_item no_item
   where
     no_item : {m : ℕ} → Holds IsStartOf (Start no) m item_rule
     no_item {m} = ((λ h. absurd h), ((λ h. absurd h), tt))
 
 pub start_at_top : HasInForce spec tree 0 (Start no)
-start_at_top = (from_one, (top_rule, by_rule, (0, refl, refl), of_rule ((0, omega arith, refl), refl)))
+start_at_top = (by_rule, from_one, (top_rule, (0, refl, refl), of_rule (refl, tt) ((0, omega arith, refl), refl)))
 
 -- each line assigns the chain, and nothing else does
 abbrev pub IsLine : ℕ → Type 0
@@ -50,7 +50,7 @@ IsLine m = (m ≡ 1) ⊎ ((m ≡ 2) ⊎ (m ≡ 3))
 abbrev pub IsNext : ℕ → Comp → Type 0
 IsNext m c = IsLine m × (c ≡ next)
 
-pub assigns : (m : ℕ) (c : Comp) → InForceAt spec tree m (Behind no) c → IsNext m c
+pub assigns : (m : ℕ) (h : Holder) (c : Comp) → InForceAt spec tree m (Behind no) h c → (h ≡ by_rule) × IsNext m c
 assigns = in_force (Behind no) IsNext ((λ h. absurd h), ((λ h. absurd h), tt)) (item 1 (inl refl)) (item 2 (inr (inl refl))) (item 3 (inr (inr refl)))
   where
     text_is_no_chain : {X : Type 0} → text ≡ no → X
@@ -60,4 +60,4 @@ assigns = in_force (Behind no) IsNext ((λ h. absurd h), ((λ h. absurd h), tt))
     item m h = ((λ k. text_is_no_chain k.1), ((λ k. (h, refl)), tt))
 
 pub next_in_force : (m : ℕ) → IsAt spec tree m item_rule → HasInForce spec tree m (Behind no)
-next_in_force m at = (next, (item_rule, by_rule, at, of_rule ((1, omega arith, refl), (refl, refl, refl))))
+next_in_force m at = (by_rule, next, (item_rule, at, of_rule (refl, tt) ((1, omega arith, refl), (refl, refl, refl))))

@@ -57,9 +57,9 @@ module _ (rules : List RuleItem) (attrs : List Decl) (terms chains : List Typed1
 
   -- the computation in force is a rule's own
   pub only_rules : (r : RuleItem) (k s : ℕ) (goal : Goal) (h : Holder) (c : Comp) → InForce (of_rules rules attrs terms chains) r k s goal h c → (h ≡ by_rule) × InRule (of_rules rules attrs terms chains) r k goal c
-  only_rules r k s goal h c (of_rule a) = (refl, a)
-  only_rules r k s goal h c (of_symbol none a) = absurd (no_body s c a.0)
-  only_rules r k s goal h c (of_class class none own left one a) = absurd (no_body class c a.0)
+  only_rules r k s goal h c (of_rule is a) = (refl, a)
+  only_rules r k s goal h c (of_symbol is none a) = absurd (no_body s c a.0)
+  only_rules r k s goal h c (of_class class is none own left one a) = absurd (no_body class c a.0)
 
   named_within : (P : ℕ → ℕ → Type 0) → AllByRecursion (λ (r : RuleItem). AllByRecursion (EachUse P) r.body) rules → (s a : ℕ) → IsNamed (of_rules rules attrs terms chains) s a → P s a
   named_within P all s a (declared d h) = absurd (omega (arith, h.1.1))

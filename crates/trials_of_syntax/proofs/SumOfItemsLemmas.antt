@@ -20,7 +20,7 @@ use Rattle.lido_syntax.proofs.ExpressionLemmas.{reads-Call}
 use Rattle.trials_of_syntax.specs.Writing.{name, declaration}
 use Rattle.trials_of_syntax.specs.SumOfItems.{spec, tree, top_rule, item_rule, out, number, Item, n}
 use Rattle.trials_of_syntax.proofs.Members.{every, some_same}
-use Rattle.trials_of_syntax.proofs.RulesOnly.{EachUse, has_within, kind_within, not_typed_by_symbol, rule_of}
+use Rattle.trials_of_syntax.proofs.RulesOnly.{EachUse, has_within, not_declared_kind, kind_within, not_typed_by_symbol, rule_of}
 
 -- the only symbol with an attribute, and its only attribute
 abbrev pub IsNumber : ℕ → ℕ → Type 0
@@ -74,6 +74,10 @@ one_type s a _ _ (HasType.by_default h k) (HasType.by_default i j) = refl
 
 pub has_number : Has spec Item n
 has_number = inl (attributes.by_name number (name Item) None (inl (item_rule, (1, omega arith, refl), (0, omega arith, refl))) (name n, (0, omega arith, refl), refl, (λ h. cc)) refl)
+
+pub kind_number : HasKind spec Item n Synthesized
+kind_number = attributes.by_side (not_declared_kind spec.rules spec.attrs spec.terms spec.chains (refl, tt) Item n)
+    (inl (attributes.side item_rule number (name Item) None (name n) (1, omega arith, refl) (0, omega arith, refl) refl tt refl refl (λ h. cc)))
 
 pub type_number : HasType spec Item n type.Int
 type_number = attributes.by_attr (not_typed_by_symbol spec.rules spec.attrs spec.terms spec.chains Item n) (declaration n type.Int, (0, omega arith, refl), refl, refl)

@@ -7,13 +7,14 @@ use Rattle.lido_syntax.specs.declared.spec.RuleItem.{RuleItem}
 use Rattle.lido_syntax.specs.declared.spec.Expr.{Expr}
 use Rattle.lido_syntax.specs.declared.spec.Expr.TheVariants as expr
 use Rattle.lido_syntax.specs.Assignment.{Assignment}
+use Rattle.lido_syntax.specs.Computation.{Holder}
 use Rattle.lido_syntax.specs.Sets.{Sets}
 use Rattle.lido_syntax.specs.Value.{value}
 use Rattle.trials_of_syntax.specs.Writing.{env, int, call, ADD, SUB, DIV, MOD, NEG, IF}
 
 -- whatever the specification, the tree and the assignment, the expression has this value in a computation of this number at this node
 abbrev pub IsAlways : Expr → (ℕ → ℕ → Plain) → Type 0
-IsAlways e result = (spec : Spec) (sets : Sets spec) (t : Tree Plain) (A : Assignment) (r : RuleItem) (number n : ℕ) (tail : ℕ → Plain) → value spec sets env t A r number n tail e ≡ result number n
+IsAlways e result = (spec : Spec) (sets : Sets spec) (t : Tree Plain) (A : Assignment) (h : Holder) (r : RuleItem) (number n : ℕ) (tail : ℕ → Plain) → value spec sets env t A h r number n tail e ≡ result number n
 
 -- IF(false, 1 / 0, 5)
 abbrev pub chosen_branch : Expr

@@ -11,6 +11,7 @@ use Rattle.lido_syntax.specs.declared.spec.Pair.{Pair}
 use Rattle.lido_syntax.specs.declared.spec.Expr.TheVariants as expr
 use Rattle.lido_syntax.specs.declared.spec.RuleItem.{RuleItem}
 use Rattle.lido_syntax.specs.Assignment.{Assignment, Attribute}
+use Rattle.lido_syntax.specs.Computation.{by_rule}
 use Rattle.lido_syntax.specs.Sets.{Sets}
 use Rattle.lido_syntax.specs.Value.{value}
 use Rattle.trials_of_syntax.specs.Writing.{env, int, call, pair, named, attr, comp, plain_rule, list_rule, declaration, of_rules, root, node, assigned, ADD}
@@ -48,4 +49,4 @@ depths = assigned ((0, Attribute depth, Int (pos 0)) ∷ (1, Attribute depth, In
 
 -- the depth that the rule of blocks computes at the node
 abbrev pub IsDepth : ℕ → Plain → Type 0
-IsDepth at v = (sets : Sets spec) → value spec sets env tree depths block_rule 1 at (λ c. Void) one_deeper.value ≡ v
+IsDepth at v = (sets : Sets spec) → value spec sets env tree depths by_rule block_rule 1 at (λ c. Void) one_deeper.value ≡ v

@@ -1,7 +1,9 @@
 //! A chain through a list, with a start inside.
 ghost use Rattle.std.specs.Prelude.{◌≡◌, pos, [], ◌∷◌, ◌++◌, codes};
 ghost use Rattle.lido_base.specs.Plain.{Int, Text, Void};
+ghost use Rattle.lido_base.specs.declared.value.ValueType.TheVariants as type_of;
 ghost use Rattle.lido_syntax.specs.Chains.{IsThreaded, IsTail};
+ghost use Rattle.lido_syntax.specs.Computation.{by_rule};
 ghost use Rattle.lido_syntax.specs.Constituents.{constituents_at};
 ghost use Rattle.lido_syntax.specs.Sets.{Sets};
 ghost use Rattle.lido_syntax.specs.Value.{value};
@@ -10,16 +12,16 @@ ghost use Rattle.trials_of_syntax.specs.NumberedList.{tree as three_lines, count
 
 /// A start counts for the nodes below it alone: the lines have the numbers 1, 10, 11 and 2, and the output is their lines.
 pub fn nested_start()
-    ensures threaded { (sets : Sets spec) → IsThreaded spec sets env tree counted no }
-    ensures no_leak { (sets : Sets spec) → ¬ IsThreaded spec sets env tree leaked no }
+    ensures threaded { (sets : Sets spec) → IsThreaded spec sets env tree counted no type_of.Int }
+    ensures no_leak { (sets : Sets spec) → ¬ IsThreaded spec sets env tree leaked no type_of.Int }
     ensures first { (sets : Sets spec)
-        → value spec sets env tree counted item_rule 3 1 (λ c. Void) line.value ≡ of_line (codes "1 a") }
+        → value spec sets env tree counted by_rule item_rule 3 1 (λ c. Void) line.value ≡ of_line (codes "1 a") }
     ensures inner { (sets : Sets spec)
-        → value spec sets env tree counted item_rule 3 4 (λ c. Void) line.value ≡ of_line (codes "10 x") }
+        → value spec sets env tree counted by_rule item_rule 3 4 (λ c. Void) line.value ≡ of_line (codes "10 x") }
     ensures inner_next { (sets : Sets spec)
-        → value spec sets env tree counted item_rule 3 5 (λ c. Void) line.value ≡ of_line (codes "11 y") }
+        → value spec sets env tree counted by_rule item_rule 3 5 (λ c. Void) line.value ≡ of_line (codes "11 y") }
     ensures behind { (sets : Sets spec)
-        → value spec sets env tree counted item_rule 3 6 (λ c. Void) line.value ≡ of_line (codes "2 b") }
+        → value spec sets env tree counted by_rule item_rule 3 6 (λ c. Void) line.value ≡ of_line (codes "2 b") }
     ensures group { (sets : Sets spec) → constituents_at spec sets env tree lines group_lines 3 group_lines.with
         ≡ Text (codes "10 x" ++ 10 ∷ codes "11 y" ++ 10 ∷ []) }
     ensures output { (sets : Sets spec) → constituents_at spec sets env tree lines all_lines 0 all_lines.with
@@ -36,14 +38,14 @@ pub fn tails()
 
 /// A chain numbers the lines of a list from its start on: 1, 2 and 3, and the output is the three lines.
 pub fn numbered_list()
-    ensures threaded { (sets : Sets spec) → IsThreaded spec sets env three_lines three_counted no }
-    ensures no_repeat { (sets : Sets spec) → ¬ IsThreaded spec sets env three_lines three_stuck no }
+    ensures threaded { (sets : Sets spec) → IsThreaded spec sets env three_lines three_counted no type_of.Int }
+    ensures no_repeat { (sets : Sets spec) → ¬ IsThreaded spec sets env three_lines three_stuck no type_of.Int }
     ensures first { (sets : Sets spec)
-        → value spec sets env three_lines three_counted item_rule 3 1 (λ c. Void) line.value ≡ of_line (codes "1 a") }
+        → value spec sets env three_lines three_counted by_rule item_rule 3 1 (λ c. Void) line.value ≡ of_line (codes "1 a") }
     ensures second { (sets : Sets spec)
-        → value spec sets env three_lines three_counted item_rule 3 2 (λ c. Void) line.value ≡ of_line (codes "2 b") }
+        → value spec sets env three_lines three_counted by_rule item_rule 3 2 (λ c. Void) line.value ≡ of_line (codes "2 b") }
     ensures third { (sets : Sets spec)
-        → value spec sets env three_lines three_counted item_rule 3 3 (λ c. Void) line.value ≡ of_line (codes "3 c") }
+        → value spec sets env three_lines three_counted by_rule item_rule 3 3 (λ c. Void) line.value ≡ of_line (codes "3 c") }
     ensures output { (sets : Sets spec) → constituents_at spec sets env three_lines three_texts all_lines 0 all_lines.with
         ≡ Text (codes "1 a" ++ 10 ∷ codes "2 b" ++ 10 ∷ codes "3 c" ++ 10 ∷ []) }
 {}

@@ -6,6 +6,7 @@ ghost use Rattle.lido_syntax.specs.declared.spec.Comp.{Comp};
 ghost use Rattle.lido_syntax.specs.Attributes.{HasKind};
 ghost use Rattle.lido_syntax.specs.Attribution.{IsAttribution};
 ghost use Rattle.lido_syntax.specs.Completeness.{IsComplete};
+ghost use Rattle.lido_syntax.specs.Computation.{Holder, by_rule, by_symbol};
 ghost use Rattle.lido_syntax.specs.Constituents.{constituents_at};
 ghost use Rattle.lido_syntax.specs.Including.{up};
 ghost use Rattle.lido_syntax.specs.Nodes.{Computes};
@@ -16,10 +17,11 @@ ghost use Rattle.trials_of_syntax.specs.Writing.{env};
 
 /// A rule's computation has the rule's node as its context, that of a class the node whose symbol inherits it.
 pub fn computing_nodes()
-    ensures rule { Computes spec tree 1 i 0 three }
-    ensures rule_below { Computes spec tree 3 i 2 quotient }
-    ensures class { Computes spec tree 2 i 2 five }
-    ensures no_other { (context : ℕ) (c : Comp) → Computes spec tree 2 i context c → (context ≡ 2) × (c ≡ five) }
+    ensures rule { Computes spec tree 1 i 0 by_rule three }
+    ensures rule_below { Computes spec tree 3 i 2 by_rule quotient }
+    ensures class { Computes spec tree 2 i 2 by_symbol five }
+    ensures no_other { (context : ℕ) (h : Holder) (c : Comp) → Computes spec tree 2 i context h c
+        → (context ≡ 2) × (h ≡ by_symbol) × (c ≡ five) }
 {}
 
 /// A target on the right side tells that an attribute is inherited, and so does INH in a class.

@@ -1,5 +1,5 @@
 //! A small specification in whole: its attributes, the trees that fit it, its only values and its output.
-ghost use Rattle.std.specs.Prelude.{◌≡◌, ℕ, pos, codes, Ok};
+ghost use Rattle.std.specs.Prelude.{◌≡◌, ℕ, pos, codes, Ok, []};
 ghost use Rattle.lido_base.specs.Plain.{Int};
 ghost use Rattle.lido_base.specs.declared.kinds.Kind.TheVariants as kind;
 ghost use Rattle.lido_base.specs.declared.value.ValueType.TheVariants as type_of;
@@ -46,7 +46,7 @@ pub fn sum_of_items()
     ensures attribution { (sets : Sets spec) → IsAttribution spec sets env tree numbers }
     ensures wrong { (sets : Sets spec) → ¬ IsAttribution spec sets env tree wrong_numbers }
     ensures too_many { (sets : Sets spec) → ¬ IsAttribution spec sets env tree too_many_numbers }
-    ensures result { (sets : Sets spec) → IsResult spec sets env tree numbers (Ok (codes "11")) }
+    ensures result { (sets : Sets spec) → IsResult spec sets env tree numbers (Ok (codes "11", [])) }
     ensures empty { (sets : Sets spec)
         → constituents_at spec sets env empty_tree numbers sum 0 sum.with ≡ Int (pos 0) }
 {}

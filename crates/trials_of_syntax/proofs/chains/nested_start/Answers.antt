@@ -1,6 +1,6 @@
 use Rattle.std.specs.Prelude.{◌≡◌, ℕ, zero, suc, ◌<◌, IsSome, ◌⊎◌, pos, true, Some, None, refl, List, [], ◌∷◌, ◌++◌}
 use Rattle.std.specs.Fmt.{digits}
-use Rattle.std.proofs.Common.{arith, subst, sym, ◌∙◌, inl, inr}
+use Rattle.std.proofs.Common.{arith, ap, subst, sym, ◌∙◌, inl, inr}
 use Rattle.lido_base.specs.Operations.{operate}
 use Rattle.lido_base.specs.Plain.{Plain, Int, Void}
 use Rattle.lido_base.specs.Reach.{source}
@@ -9,7 +9,8 @@ use Rattle.lido_syntax.specs.declared.spec.Comp.{Comp}
 use Rattle.lido_syntax.specs.declared.spec.Place.TheVariants as place
 use Rattle.lido_syntax.specs.Sets.{Sets}
 use Rattle.lido_syntax.specs.Assignment.{Slot, Front, Behind}
-use Rattle.lido_syntax.specs.Computation.{Goal, by_rule, of_rule, InRule, IsRuleTarget}
+use Rattle.lido_base.specs.declared.value.ValueType.TheVariants as type
+use Rattle.lido_syntax.specs.Computation.{Holder, by_rule}
 use Rattle.lido_syntax.specs.Computation as goals
 use Rattle.lido_syntax.specs.Constituents.{weight_of}
 use Rattle.lido_syntax.specs.Nodes.{IsAt, InForceAt, HasInForce}
@@ -33,11 +34,14 @@ past n slot = none_from (counted (suc (suc (suc (suc (suc (suc (suc n))))))) slo
 
 module _ (sets : Sets spec) where
   start_value : (m : ℕ) (v : Plain) → IsStart spec sets env tree counted no m v → ((m ≡ 0) × (v ≡ Int (pos 1))) ⊎ ((m ≡ 3) × (v ≡ Int (pos 10)))
-  start_value m v (comp, r, force, at, e) = go (starts m comp force)
+  start_value m v (h, comp, r, force, at, e) = go (starts m h comp force).1
     where
+      holder : v ≡ value_by spec sets env tree counted (λ c. Void) m by_rule r comp
+      holder = e ∙ ap (λ h. value_by spec sets env tree counted (λ c. Void) m h r comp) (starts m h comp force).0
+
       go : IsStartOf m comp → ((m ≡ 0) × (v ≡ Int (pos 1))) ⊎ ((m ≡ 3) × (v ≡ Int (pos 10)))
-      go (inl (em, ec)) = inl (em, (e ∙ subst (λ comp. value_by spec sets env tree counted (λ c. Void) m r comp ≡ Int (pos 1)) (sym ec) refl))
-      go (inr (em, ec)) = inr (em, (e ∙ subst (λ comp. value_by spec sets env tree counted (λ c. Void) m r comp ≡ Int (pos 10)) (sym ec) refl))
+      go (inl (em, ec)) = inl (em, (holder ∙ subst (λ comp. value_by spec sets env tree counted (λ c. Void) m by_rule r comp ≡ Int (pos 1)) (sym ec) refl))
+      go (inr (em, ec)) = inr (em, (holder ∙ subst (λ comp. value_by spec sets env tree counted (λ c. Void) m by_rule r comp ≡ Int (pos 10)) (sym ec) refl))
 
   first_child : (n m : ℕ) (rest : List ℕ) (v : Plain) → children tree n ≡ m ∷ rest → IsStart spec sets env tree counted no n v → counted m (Front no) ≡ Some v
   first_child n m rest v e start = go (start_value n v start)
@@ -70,29 +74,30 @@ module _ (sets : Sets spec) where
   later_child (suc (suc (suc (suc (suc (suc (suc n))))))) = adjacent Follows [] tt
 
   abbrev IsAssigned : ℕ → Comp → Type 0
-  IsAssigned n comp = (v : Plain) × IsComputed spec sets env tree counted n comp v × (counted n (Behind no) ≡ Some v)
+  IsAssigned n comp = (v : Plain) × IsComputed spec sets env tree counted n by_rule comp v × (counted n (Behind no) ≡ Some v)
 
-  computed_at : (n : ℕ) (v : Plain) → IsAt spec tree n item_rule → v ≡ value_by spec sets env tree counted (λ c. Void) n item_rule next → IsComputed spec sets env tree counted n next v
+  computed_at : (n : ℕ) (v : Plain) → IsAt spec tree n item_rule → v ≡ value_by spec sets env tree counted (λ c. Void) n by_rule item_rule next → IsComputed spec sets env tree counted n by_rule next v
   computed_at n v at e = (item_rule, (λ c. Void), at, (λ c h. absurd (no_tail_in_next place.Tail h.0 h.1)), e)
 
   next_1 : IsAssigned 1 next
   unfolding operate
-  next_1 = (Int (pos 2), computed_at 1 (Int (pos 2)) (1, refl, refl) (simp (value-Call spec sets env tree counted item_rule 4 1 (λ c. Void)) refl), refl)
+  next_1 = (Int (pos 2), computed_at 1 (Int (pos 2)) (1, refl, refl) (simp (value-Call spec sets env tree counted by_rule item_rule 4 1 (λ c. Void)) refl), refl)
 
   next_4 : IsAssigned 4 next
   unfolding operate
-  next_4 = (Int (pos 11), computed_at 4 (Int (pos 11)) (1, refl, refl) (simp (value-Call spec sets env tree counted item_rule 4 4 (λ c. Void)) refl), refl)
+  next_4 = (Int (pos 11), computed_at 4 (Int (pos 11)) (1, refl, refl) (simp (value-Call spec sets env tree counted by_rule item_rule 4 4 (λ c. Void)) refl), refl)
 
   next_5 : IsAssigned 5 next
   unfolding operate
-  next_5 = (Int (pos 12), computed_at 5 (Int (pos 12)) (1, refl, refl) (simp (value-Call spec sets env tree counted item_rule 4 5 (λ c. Void)) refl), refl)
+  next_5 = (Int (pos 12), computed_at 5 (Int (pos 12)) (1, refl, refl) (simp (value-Call spec sets env tree counted by_rule item_rule 4 5 (λ c. Void)) refl), refl)
 
   next_6 : IsAssigned 6 next
   unfolding operate
-  next_6 = (Int (pos 3), computed_at 6 (Int (pos 3)) (1, refl, refl) (simp (value-Call spec sets env tree counted item_rule 4 6 (λ c. Void)) refl), refl)
+  next_6 = (Int (pos 3), computed_at 6 (Int (pos 3)) (1, refl, refl) (simp (value-Call spec sets env tree counted by_rule item_rule 4 6 (λ c. Void)) refl), refl)
 
-  assigned : (n : ℕ) (comp : Comp) → InForceAt spec tree n (goals.Behind no) comp → IsAssigned n comp
-  assigned n comp force = let is = assigns n comp force in subst (IsAssigned n) (sym is.1) (at is.0)
+  assigned : (n : ℕ) (h : Holder) (comp : Comp) → InForceAt spec tree n (goals.Behind no) h comp → (v : Plain) × IsComputed spec sets env tree counted n h comp v × (counted n (Behind no) ≡ Some v)
+  assigned n h comp force = let is = assigns n h comp force in
+      subst (λ h. (v : Plain) × IsComputed spec sets env tree counted n h comp v × (counted n (Behind no) ≡ Some v)) (sym is.0) (subst (IsAssigned n) (sym is.1.1) (at is.1.0))
     where
       at : IsLine n → IsAssigned n next
       at (inl e) = subst (λ n. IsAssigned n next) (sym e) next_1
@@ -121,17 +126,17 @@ module _ (sets : Sets spec) where
   passed_on (suc (suc (suc (suc (suc (suc zero)))))) m before none e = absurd (none_at_end m before [] e)
   passed_on (suc (suc (suc (suc (suc (suc (suc n))))))) m before none e = absurd (none_at_end m before [] e)
 
-  threaded : IsThreaded spec sets env tree counted no
+  threaded : IsThreaded spec sets env tree counted no type.Int
   threaded = record {
     first_child = first_child;
     first_child_passed = first_child_passed;
     later_child = later_child;
-    assigned = λ n comp under force. assigned n comp force;
+    assigned = λ n h comp under force. assigned n h comp force;
     not_passed_on = not_passed_on;
     passed_on = λ n m before unassigned none e. passed_on n m before none e;
   }
 
-  no_leak : ¬ IsThreaded spec sets env tree leaked no
+  no_leak : ¬ IsThreaded spec sets env tree leaked no type.Int
   no_leak h = let wrong : Some (Int (pos 12)) ≡ Some (Int (pos 2)) = h.not_passed_on 3 group_unassigned (inr start_at_group) in cc
 
   reach_all : sets.reaches all_lines Item ≡ true
@@ -145,10 +150,10 @@ unfolding operate digits from_children weight_of
 returns c = record {
   threaded = threaded;
   no_leak = no_leak;
-  first = λ sets. simp (value-Call spec sets env tree counted item_rule 3 1 (λ c. Void)) refl;
-  inner = λ sets. simp (value-Call spec sets env tree counted item_rule 3 4 (λ c. Void)) refl;
-  inner_next = λ sets. simp (value-Call spec sets env tree counted item_rule 3 5 (λ c. Void)) refl;
-  behind = λ sets. simp (value-Call spec sets env tree counted item_rule 3 6 (λ c. Void)) refl;
+  first = λ sets. simp (value-Call spec sets env tree counted by_rule item_rule 3 1 (λ c. Void)) refl;
+  inner = λ sets. simp (value-Call spec sets env tree counted by_rule item_rule 3 4 (λ c. Void)) refl;
+  inner_next = λ sets. simp (value-Call spec sets env tree counted by_rule item_rule 3 5 (λ c. Void)) refl;
+  behind = λ sets. simp (value-Call spec sets env tree counted by_rule item_rule 3 6 (λ c. Void)) refl;
   group = λ sets. simp (reach_group sets) refl;
   output = λ sets. simp (reach_all sets) refl;
 }

@@ -1,6 +1,6 @@
 use Rattle.std.specs.Prelude.{◌≡◌, ℕ, zero, suc, ◌<◌, IsSome, ◌⊎◌, pos, true, Some, None, refl, List, [], ◌∷◌, ◌++◌}
 use Rattle.std.specs.Fmt.{digits}
-use Rattle.std.proofs.Common.{arith, subst, sym, ◌∙◌, inl, inr}
+use Rattle.std.proofs.Common.{arith, ap, subst, sym, ◌∙◌, inl, inr}
 use Rattle.lido_base.specs.Operations.{operate}
 use Rattle.lido_base.specs.Plain.{Plain, Int, Void}
 use Rattle.lido_base.specs.Reach.{source}
@@ -9,6 +9,8 @@ use Rattle.lido_syntax.specs.declared.spec.Comp.{Comp}
 use Rattle.lido_syntax.specs.declared.spec.Place.TheVariants as place
 use Rattle.lido_syntax.specs.Sets.{Sets}
 use Rattle.lido_syntax.specs.Assignment.{Slot, Front, Behind}
+use Rattle.lido_base.specs.declared.value.ValueType.TheVariants as type
+use Rattle.lido_syntax.specs.Computation.{Holder, by_rule}
 use Rattle.lido_syntax.specs.Computation as goals
 use Rattle.lido_syntax.specs.Constituents.{weight_of}
 use Rattle.lido_syntax.specs.Nodes.{IsAt, InForceAt, HasInForce}
@@ -30,9 +32,10 @@ past n slot = none_from (counted (suc (suc (suc (suc n)))) slot) (λ h. let insi
 
 module _ (sets : Sets spec) where
   start_value : (m : ℕ) (v : Plain) → IsStart spec sets env tree counted no m v → (m ≡ 0) × (v ≡ Int (pos 1))
-  start_value m v (comp, r, force, at, e) =
-      let is = starts m comp force in
-      (is.0, (e ∙ subst (λ comp. value_by spec sets env tree counted (λ c. Void) m r comp ≡ Int (pos 1)) (sym is.1) refl))
+  start_value m v (h, comp, r, force, at, e) =
+      let is = starts m h comp force in
+      let holder : v ≡ value_by spec sets env tree counted (λ c. Void) m by_rule r comp = e ∙ ap (λ h. value_by spec sets env tree counted (λ c. Void) m h r comp) is.0 in
+      (is.1.0, (holder ∙ subst (λ comp. value_by spec sets env tree counted (λ c. Void) m by_rule r comp ≡ Int (pos 1)) (sym is.1.1) refl))
 
   first_child : (n m : ℕ) (rest : List ℕ) (v : Plain) → children tree n ≡ m ∷ rest → IsStart spec sets env tree counted no n v → counted m (Front no) ≡ Some v
   first_child n m rest v e start =
@@ -57,25 +60,26 @@ module _ (sets : Sets spec) where
   later_child (suc (suc (suc (suc n)))) = adjacent Follows [] tt
 
   abbrev IsAssigned : ℕ → Comp → Type 0
-  IsAssigned n comp = (v : Plain) × IsComputed spec sets env tree counted n comp v × (counted n (Behind no) ≡ Some v)
+  IsAssigned n comp = (v : Plain) × IsComputed spec sets env tree counted n by_rule comp v × (counted n (Behind no) ≡ Some v)
 
-  computed_at : (n : ℕ) (v : Plain) → IsAt spec tree n item_rule → v ≡ value_by spec sets env tree counted (λ c. Void) n item_rule next → IsComputed spec sets env tree counted n next v
+  computed_at : (n : ℕ) (v : Plain) → IsAt spec tree n item_rule → v ≡ value_by spec sets env tree counted (λ c. Void) n by_rule item_rule next → IsComputed spec sets env tree counted n by_rule next v
   computed_at n v at e = (item_rule, (λ c. Void), at, (λ c h. absurd (no_tail_in_next place.Tail h.0 h.1)), e)
 
   next_1 : IsAssigned 1 next
   unfolding operate
-  next_1 = (Int (pos 2), computed_at 1 (Int (pos 2)) (1, refl, refl) (simp (value-Call spec sets env tree counted item_rule 4 1 (λ c. Void)) refl), refl)
+  next_1 = (Int (pos 2), computed_at 1 (Int (pos 2)) (1, refl, refl) (simp (value-Call spec sets env tree counted by_rule item_rule 4 1 (λ c. Void)) refl), refl)
 
   next_2 : IsAssigned 2 next
   unfolding operate
-  next_2 = (Int (pos 3), computed_at 2 (Int (pos 3)) (1, refl, refl) (simp (value-Call spec sets env tree counted item_rule 4 2 (λ c. Void)) refl), refl)
+  next_2 = (Int (pos 3), computed_at 2 (Int (pos 3)) (1, refl, refl) (simp (value-Call spec sets env tree counted by_rule item_rule 4 2 (λ c. Void)) refl), refl)
 
   next_3 : IsAssigned 3 next
   unfolding operate
-  next_3 = (Int (pos 4), computed_at 3 (Int (pos 4)) (1, refl, refl) (simp (value-Call spec sets env tree counted item_rule 4 3 (λ c. Void)) refl), refl)
+  next_3 = (Int (pos 4), computed_at 3 (Int (pos 4)) (1, refl, refl) (simp (value-Call spec sets env tree counted by_rule item_rule 4 3 (λ c. Void)) refl), refl)
 
-  assigned : (n : ℕ) (comp : Comp) → InForceAt spec tree n (goals.Behind no) comp → IsAssigned n comp
-  assigned n comp force = let is = assigns n comp force in subst (IsAssigned n) (sym is.1) (at is.0)
+  assigned : (n : ℕ) (h : Holder) (comp : Comp) → InForceAt spec tree n (goals.Behind no) h comp → (v : Plain) × IsComputed spec sets env tree counted n h comp v × (counted n (Behind no) ≡ Some v)
+  assigned n h comp force = let is = assigns n h comp force in
+      subst (λ h. (v : Plain) × IsComputed spec sets env tree counted n h comp v × (counted n (Behind no) ≡ Some v)) (sym is.0) (subst (IsAssigned n) (sym is.1.1) (at is.1.0))
     where
       at : IsLine n → IsAssigned n next
       at (inl e) = subst (λ n. IsAssigned n next) (sym e) next_1
@@ -96,17 +100,17 @@ module _ (sets : Sets spec) where
   passed_on (suc (suc (suc zero))) m before none e = absurd (none_at_end m before [] e)
   passed_on (suc (suc (suc (suc n)))) m before none e = absurd (none_at_end m before [] e)
 
-  threaded : IsThreaded spec sets env tree counted no
+  threaded : IsThreaded spec sets env tree counted no type.Int
   threaded = record {
     first_child = first_child;
     first_child_passed = first_child_passed;
     later_child = later_child;
-    assigned = λ n comp under force. assigned n comp force;
+    assigned = λ n h comp under force. assigned n h comp force;
     not_passed_on = not_passed_on;
     passed_on = λ n m before unassigned none e. passed_on n m before none e;
   }
 
-  no_repeat : ¬ IsThreaded spec sets env tree stuck no
+  no_repeat : ¬ IsThreaded spec sets env tree stuck no type.Int
   no_repeat h = let wrong : Some (Int (pos 2)) ≡ Some (Int (pos 3)) = h.later_child 0 2 3 (1 ∷ []) [] refl in cc
 
   reach_all : sets.reaches all_lines Item ≡ true
@@ -117,8 +121,8 @@ unfolding operate digits from_children weight_of
 returns c = record {
   threaded = threaded;
   no_repeat = no_repeat;
-  first = λ sets. simp (value-Call spec sets env tree counted item_rule 3 1 (λ c. Void)) refl;
-  second = λ sets. simp (value-Call spec sets env tree counted item_rule 3 2 (λ c. Void)) refl;
-  third = λ sets. simp (value-Call spec sets env tree counted item_rule 3 3 (λ c. Void)) refl;
+  first = λ sets. simp (value-Call spec sets env tree counted by_rule item_rule 3 1 (λ c. Void)) refl;
+  second = λ sets. simp (value-Call spec sets env tree counted by_rule item_rule 3 2 (λ c. Void)) refl;
+  third = λ sets. simp (value-Call spec sets env tree counted by_rule item_rule 3 3 (λ c. Void)) refl;
   output = λ sets. simp (reach_all sets) refl;
 }

@@ -7,7 +7,7 @@ use Rattle.trials_of_syntax.proofs.NestedStartLemmas.{IsStartOf, starts}
 use Rattle.trials_of_syntax.proofs.chains.tails.Goals as goal
 
 no_start_at_a_line : ¬ HasInForce spec tree 1 (Start no)
-no_start_at_a_line (c, f) = at (starts 1 c f)
+no_start_at_a_line (h, c, f) = at (starts 1 h c f).1
   where
     at : ¬ IsStartOf 1 c
     at (inl h) = omega (arith, h.0)
@@ -18,5 +18,5 @@ returns c = record {
   behind_the_last = λ sets. inl (4 ∷ [], 5, refl, refl);
   behind_the_group = λ sets. inl ([], 3, refl, refl);
   in_front = λ sets. inr (refl, inr (no_start_at_a_line, refl));
-  started = λ sets. inr (refl, inl (from_one, top_rule, (top_rule, by_rule, (0, refl, refl), of_rule ((0, omega arith, refl), refl)), (0, refl, refl), refl));
+  started = λ sets. inr (refl, inl (by_rule, from_one, top_rule, (top_rule, (0, refl, refl), of_rule (refl, tt) ((0, omega arith, refl), refl)), (0, refl, refl), refl));
 }

@@ -7,9 +7,9 @@ use Rattle.trials_of_syntax.proofs.expressions.values_of_expressions.Goals as go
 pub returns : goal.returns
 unfolding operate
 returns c = record {
-  branch = λ spec sets t A r number n tail. simp (value-Call spec sets env t A r number n tail) refl;
-  difference = λ spec sets t A r number n tail. simp (value-Call spec sets env t A r number n tail) refl;
-  remainder = λ spec sets t A r number n tail. simp (value-Call spec sets env t A r number n tail) refl;
-  fails = λ spec sets t A r number n tail. simp (value-Call spec sets env t A r number n tail) refl;
-  first = λ spec sets t A r number n tail. simp (value-Call spec sets env t A r number n tail) refl;
+  branch = λ spec sets t A h r number n tail. simp (value-Call spec sets env t A h r number n tail) refl;
+  difference = λ spec sets t A h r number n tail. simp (value-Call spec sets env t A h r number n tail) refl;
+  remainder = λ spec sets t A h r number n tail. simp (value-Call spec sets env t A h r number n tail) refl;
+  fails = λ spec sets t A h r number n tail. simp (value-Call spec sets env t A h r number n tail) refl;
+  first = λ spec sets t A h r number n tail. simp (value-Call spec sets env t A h r number n tail) refl;
 }

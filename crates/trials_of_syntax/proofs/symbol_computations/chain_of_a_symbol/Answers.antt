@@ -31,13 +31,13 @@ c-left = record {
 }
 
 no_start : (h : Holder) (c : Comp) → ¬ InForce chain_in_symbols y_rule 0 Y (Start no) h c
-no_start h c (of_rule a) = omega (arith, a.0.1)
-no_start h c (of_symbol none a) = y-none c a
-no_start h c (of_class class none own left one a) = apart Y Z Y refl (above Y class left.inherited).0 refl
+no_start h c (of_rule is a) = omega (arith, a.0.1)
+no_start h c (of_symbol is none a) = y-none c a
+no_start h c (of_class class is none own left one a) = apart Y Z Y refl (above Y class left.inherited).0 refl
 
 pub returns : goal.returns
 returns c = record {
-  start = of_class C (λ h. absurd (omega (arith, h.1.0.1))) z-none c-left (λ other k. (above Z other k.inherited).1) c-computes;
-  this = of_symbol (λ h. absurd (omega (arith, h.1.0.1))) ((_, (1, omega arith, refl), refl, (0, omega arith, refl)), refl);
+  start = of_class C (refl, tt) (λ h. absurd (omega (arith, h.1.0.1))) z-none c-left (λ other k. (above Z other k.inherited).1) c-computes;
+  this = of_symbol (refl, tt) (λ h. absurd (omega (arith, h.1.0.1))) ((_, (1, omega arith, refl), refl, (0, omega arith, refl)), refl);
   no_start = no_start;
 }

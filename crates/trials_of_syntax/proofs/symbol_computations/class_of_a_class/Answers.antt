@@ -58,6 +58,6 @@ z-none (c, h) = in_bodies class_of_class Z (Synthesized v) (λ c. ⊥) ((λ e. c
 
 pub returns : goal.returns
 returns c = record {
-  left = of_class D (λ h. absurd (omega (arith, h.1.0.1))) z-none d-left only-d d-computes;
+  left = of_class D (refl, tt) (λ h. absurd (omega (arith, h.1.0.1))) z-none d-left only-d d-computes;
   dropped = c-dropped;
 }

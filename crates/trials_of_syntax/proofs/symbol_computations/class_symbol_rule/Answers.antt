@@ -35,18 +35,18 @@ c-left = record {
 }
 
 z-class : Forces class_symbol_rule z_rule by_symbol (synt 0 1)
-z-class = of_class C (λ h. absurd (omega (arith, h.1.0.1))) z-none c-left (λ other k. (to_class Z other k.inherited).1) c-computes
+z-class = of_class C (refl, tt) (λ h. absurd (omega (arith, h.1.0.1))) z-none c-left (λ other k. (to_class Z other k.inherited).1) c-computes
 
 only : (h : Holder) (c : Comp) → Forces class_symbol_rule z_rule h c → c ≡ synt 0 1
-only h c (of_rule a) = absurd (omega (arith, a.0.1))
-only h c (of_symbol none a) = absurd (z-none (c, a))
-only h c (of_class class none own left one a) = in_bodies class_symbol_rule class (Synthesized v) (λ c. c ≡ synt 0 1)
+only h c (of_rule is a) = absurd (omega (arith, a.0.1))
+only h c (of_symbol is none a) = absurd (z-none (c, a))
+only h c (of_class class is none own left one a) = in_bodies class_symbol_rule class (Synthesized v) (λ c. c ≡ synt 0 1)
     ((λ e. ((λ k. refl), tt)), ((λ e. ((λ k. absurd ((to_class X C (source refl)).0 (sym (one_of class X e) ∙ (to_class Z class left.inherited).1))), tt)), ((λ e. ((λ k. absurd ((to_class Y C (source refl)).0 (sym (one_of class Y e) ∙ (to_class Z class left.inherited).1))), tt)), ((λ e. tt), tt)))) c a
 
 pub returns : goal.returns
 returns c = record {
-  rule = of_rule ((0, omega arith, refl), (refl, refl, (λ h. cc)));
-  symbol = of_symbol (λ h. absurd (omega (arith, h.1.0.1))) ((_, (2, omega arith, refl), refl, (0, omega arith, refl)), refl);
+  rule = of_rule (refl, tt) ((0, omega arith, refl), (refl, refl, (λ h. cc)));
+  symbol = of_symbol (refl, tt) (λ h. absurd (omega (arith, h.1.0.1))) ((_, (2, omega arith, refl), refl, (0, omega arith, refl)), refl);
   class = z-class;
   no_other = only;
 }

@@ -41,9 +41,9 @@ d-left : IsLeft two_classes Z (Synthesized v) D
 d-left = left D (source refl) (synt 1 2, ((symbol_item true D [] (synt 1 2 ∷ []), (1, omega arith, refl), refl, (0, omega arith, refl)), refl))
 
 none : (h : Holder) (c : Comp) → ¬ Forces two_classes z_rule h c
-none h c (of_rule a) = absurd (omega (arith, a.0.1))
-none h c (of_symbol no_rule a) = in_bodies two_classes Z (Synthesized v) (λ c. ⊥) ((λ e. cc), ((λ e. cc), ((λ e. tt), tt))) c a
-none h c (of_class class no_rule own left one a) = apart C D class (sym (one C c-left)) (sym (one D d-left)) refl
+none h c (of_rule is a) = absurd (omega (arith, a.0.1))
+none h c (of_symbol is no_rule a) = in_bodies two_classes Z (Synthesized v) (λ c. ⊥) ((λ e. cc), ((λ e. cc), ((λ e. tt), tt))) c a
+none h c (of_class class is no_rule own left one a) = apart C D class (sym (one C c-left)) (sym (one D d-left)) refl
 
 pub returns : goal.returns
 returns c = record { first = c-left; second = d-left; none = none }

@@ -37,4 +37,4 @@ missing : ¬ HasComputation without_a_number (plain_rule Item (Num ∷ []) []) 0
 missing (h, c, force) = let in_rule = (only_rules without_a_number.rules without_a_number.attrs without_a_number.terms without_a_number.chains (plain_rule Item (Num ∷ []) []) 0 Item (goals.Synthesized n) h c force).1 in omega (arith, in_rule.0.1)
 
 pub returns : goal.returns
-returns c = λ complete. missing (complete.synthesized (plain_rule Item (Num ∷ []) []) n (1, omega arith, refl) has synthesized)
+returns c = λ complete. missing ((complete.synthesized (plain_rule Item (Num ∷ []) []) n (1, omega arith, refl) has).0 synthesized)

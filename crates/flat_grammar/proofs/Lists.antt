@@ -123,7 +123,7 @@ last-in-end (a ∷ xs) y ys (b ∷ front) x e = last-in-end xs y ys front x (ap 
 
 -- ---- the first elements, one more each time
 
-next_take : {X : Type 0} (xs : List X) (k : ℕ) (d : X) → k < length xs → take (k + 1) xs ≡ take k xs ++ slice_index_or xs k d ∷ []
+pub next_take : {X : Type 0} (xs : List X) (k : ℕ) (d : X) → k < length xs → take (k + 1) xs ≡ take k xs ++ slice_index_or xs k d ∷ []
 next_take xs k d within = rw add-one (take-suc xs k d within)
 
 pub take_less : {X : Type 0} (xs : List X) (k : ℕ) (d x : X) → k < length xs → Contains (take k xs) x → Contains (take (k + 1) xs) x

@@ -1,6 +1,6 @@
 -- Relations as lists of rows: what they have, what follows from it, and when all of it is there.
 use Rattle.std.specs.Prelude.{IsBitSet, slice_index_or, slice_set, ◌%◌, ◌/◌}
-use Rattle.std.proofs.Common.{◌≡◌, ◌≢◌, ℕ, suc, ◌+◌, ◌<◌, ◌≤◌, ◌⊎◌, ◌↔◌, inl, inr, refl, sym, ap, subst, ◌∙◌, arith, List, [], ◌∷◌, ◌++◌, length}
+use Rattle.std.proofs.Common.{◌≡◌, ◌≢◌, ℕ, ◌+◌, ◌<◌, ◌≤◌, ◌⊎◌, ◌↔◌, inl, inr, refl, sym, ap, subst, ◌∙◌, arith, List, [], ◌∷◌, ◌++◌, length}
 use Rattle.std.proofs.lemmas.Bool.{cases_lt, cases_order}
 use Rattle.std.proofs.lemmas.List.{get_or_past, get_or_append_left, get_or-set_same, get_or-set_other, length-append}
 use Rattle.std.proofs.Math.Seq.{get_or-append_seam}
@@ -8,7 +8,7 @@ use Rattle.std.proofs.lemmas.Option.{get_or_from_slice_get, slice_get-get_or}
 use Rattle.flat_grammar.proofs.BitsLemmas.{empty-set}
 use Rattle.induced_deps.proofs.RowLemmas.{equal_or_not}
 use Rattle.induced_deps.specs.declared.row.Row.{Row}
-use Rattle.induced_deps.specs.Rows.{IsIn, IsPart, no_row, Has, IsClosedAt, ArePassed, Follows, known, extra, joined, Nothing, Gains, FromOne}
+use Rattle.induced_deps.specs.Rows.{IsIn, IsPart, no_row, Has, IsClosedAt, ArePassed, Follows, known, extra, joined, Nothing, Gains, FromOne, IsTransitive, IsBehind, ComesTo}
 
 nothing_in : (w : ℕ) → IsIn [] w → ⊥
 unfolding IsIn
@@ -37,13 +37,9 @@ pub part_in : (set row : List ℕ) (w : ℕ) → IsPart set row → IsIn set w �
 unfolding IsIn IsPart
 part_in set row w part h = part (w / 128) (w % 128) h
 
--- all edges of the set are there
-pub gains_nothing : (rows : List Row) (from : ℕ) (set : List ℕ) → IsPart set (slice_index_or rows from no_row).words → Gains rows rows (FromOne from set)
-gains_nothing rows from set part = record {
-  kept = λ v w h. h;
-  added = λ v w h. subst (λ k. Has rows k w) (sym h.0) (part_in set (slice_index_or rows from no_row).words w part h.1);
-  follow = λ v w h. known h;
-}
+-- nothing is gained where all extra edges are there
+pub gains_there : (rows : List Row) (E : ℕ → ℕ → Type 0) → ((v w : ℕ) → E v w → Has rows v w) → Gains rows rows E
+gains_there rows E there = record { kept = λ v w h. h; added = there; follow = λ v w h. known h }
 
 -- More extra edges.
 more_follows : (rows : List Row) (E F : ℕ → ℕ → Type 0) → ((v w : ℕ) → E v w → F v w) → (v w : ℕ) → Follows rows E v w → Follows rows F v w
@@ -56,6 +52,14 @@ then_follows : (old middle : List Row) (E F G : ℕ → ℕ → Type 0) → ((v 
 then_follows old middle E F G first second before v w (known h) = more_follows old E G first v w (before v w h)
 then_follows old middle E F G first second before v w (extra h) = extra (second v w h)
 then_follows old middle E F G first second before v w (joined {v = u} h k) = joined (then_follows old middle E F G first second before v u h) (then_follows old middle E F G first second before u w k)
+
+-- More extra edges that are there already.
+pub gains_more : (old new : List Row) (E F : ℕ → ℕ → Type 0) → ((v w : ℕ) → E v w → F v w) → ((v w : ℕ) → F v w → E v w ⊎ Has old v w) → Gains old new E → Gains old new F
+gains_more old new E F wider only gains = record {
+  kept = gains.kept;
+  added = λ v w h. elim (only v w h) [ inl e ↦ gains.added v w e | inr there ↦ gains.kept v w there ];
+  follow = λ v w h. more_follows old E F wider v w (gains.follow v w h);
+}
 
 -- One gain after another gains what both do.
 pub gains_then : (old middle new : List Row) (E F G : ℕ → ℕ → Type 0) → ((v w : ℕ) → E v w → G v w) → ((v w : ℕ) → F v w → G v w) → ((v w : ℕ) → G v w → E v w ⊎ F v w) → Gains old middle E → Gains middle new F → Gains old new G
@@ -115,20 +119,21 @@ module _ (rows : List Row) (from : ℕ) (row : Row) where
   at_other v other = get_or-set_other rows from v row no_row other
 
 -- the row of a vertex with a set
+pub join_edges : (rows : List Row) (from : ℕ) (set : List ℕ) (row : Row) → from < length rows → ((j : ℕ) → IsIn row.words j ↔ (IsIn (slice_index_or rows from no_row).words j ⊎ IsIn set j))
+    → (v w : ℕ) → Has (slice_set rows from row) v w ↔ (Has rows v w ⊎ FromOne from set v w)
+join_edges rows from set row within members v w = elim (equal_or_not v from) [
+  | inl same ↦ (
+    λ h. elim ((members w).0 (subst (λ (r : Row). IsIn r.words w) (at_from rows from row within) (subst (λ k. Has (slice_set rows from row) k w) same h))) [ inl before ↦ inl (subst (λ k. Has rows k w) (sym same) before) | inr more ↦ inr (same, more) ],
+    λ h. subst (λ k. Has (slice_set rows from row) k w) (sym same) (subst (λ (r : Row). IsIn r.words w) (sym (at_from rows from row within)) ((members w).1 (elim h [ inl before ↦ inl (subst (λ k. Has rows k w) same before) | inr more ↦ inr more.1 ]))),
+  )
+  | inr other ↦ (
+    λ h. inl (subst (λ (r : Row). IsIn r.words w) (at_other rows from row v other) h),
+    λ h. elim h [ inl before ↦ subst (λ (r : Row). IsIn r.words w) (sym (at_other rows from row v other)) before | inr more ↦ absurd (other more.0) ],
+  )
+]
+
 pub join_gains : (rows : List Row) (from : ℕ) (set : List ℕ) (row : Row) → from < length rows → ((j : ℕ) → IsIn row.words j ↔ (IsIn (slice_index_or rows from no_row).words j ⊎ IsIn set j)) → Gains rows (slice_set rows from row) (FromOne from set)
-join_gains rows from set row within members = gains_joined rows (slice_set rows from row) from set edges
-  where
-    edges : (v w : ℕ) → Has (slice_set rows from row) v w ↔ (Has rows v w ⊎ FromOne from set v w)
-    edges v w = elim (equal_or_not v from) [
-      | inl same ↦ (
-        λ h. elim ((members w).0 (subst (λ (r : Row). IsIn r.words w) (at_from rows from row within) (subst (λ k. Has (slice_set rows from row) k w) same h))) [ inl before ↦ inl (subst (λ k. Has rows k w) (sym same) before) | inr more ↦ inr (same, more) ],
-        λ h. subst (λ k. Has (slice_set rows from row) k w) (sym same) (subst (λ (r : Row). IsIn r.words w) (sym (at_from rows from row within)) ((members w).1 (elim h [ inl before ↦ inl (subst (λ k. Has rows k w) same before) | inr more ↦ inr more.1 ]))),
-      )
-      | inr other ↦ (
-        λ h. inl (subst (λ (r : Row). IsIn r.words w) (at_other rows from row v other) h),
-        λ h. elim h [ inl before ↦ subst (λ (r : Row). IsIn r.words w) (sym (at_other rows from row v other)) before | inr more ↦ absurd (other more.0) ],
-      )
-    ]
+join_gains rows from set row within members = gains_joined rows (slice_set rows from row) from set (join_edges rows from set row within members)
 
 pub row_read : (rows : List Row) (v : ℕ) (row d : Row) → v < length rows → row ≡ slice_index_or rows v d → slice_index_or rows v no_row ≡ row
 row_read rows v row d within is = get_or_from_slice_get rows v (slice_index_or rows v d) no_row (slice_get-get_or rows v d within) ∙ sym is
@@ -188,3 +193,91 @@ module _ (rows : List Row) (from : ℕ) (row : Row) (within : from < length rows
 
   pub gains_row : (old : List Row) → Gains old rows Nothing → Gains old new Nothing
   gains_row old before = gains_closed old rows new Nothing before row_gains
+
+-- ---- a set that goes into the row of a vertex and of all that come before it
+
+-- the rows before a place have got the set
+module _ (old rows : List Row) (from : ℕ) (set : List ℕ) where
+  -- edges so far
+  abbrev pub AreJoined : ℕ → Type 0
+  AreJoined count = (v w : ℕ) → Has rows v w ↔ (Has old v w ⊎ ((v < count) × ComesTo old from set v w))
+
+pub none_joined : (rows : List Row) (from : ℕ) (set : List ℕ) → AreJoined rows rows from set 0
+none_joined rows from set v w = (λ h. inl h, λ h. elim h [ inl before ↦ before | inr more ↦ (let below = more.0 in absurd (omega arith)) ])
+
+pub one_joined : (old rows new : List Row) (from : ℕ) (set : List ℕ) (k : ℕ) → AreJoined old rows from set k → (k ≡ from) ⊎ Has rows k from → ((v w : ℕ) → Has new v w ↔ (Has rows v w ⊎ FromOne k set v w)) → AreJoined old new from set (k + 1)
+one_joined old rows new from set k before why more v w = (
+  λ h. elim ((more v w).0 h) [
+    | inl earlier ↦ elim ((before v w).0 earlier) [ inl first ↦ inl first | inr (below, comes) ↦ inr (omega arith, comes) ]
+    | inr (same, among) ↦ inr (omega arith, (elim why [ inl is ↦ inl (same ∙ is) | inr edge ↦ inr (subst (λ u. Has old u from) (sym same) (first_edge edge)) ], among))
+  ],
+  λ h. elim h [
+    | inl first ↦ (more v w).1 (inl ((before v w).1 (inl first)))
+    | inr (below, comes) ↦ elim (cases_lt v k) [
+      | inl less ↦ (more v w).1 (inl ((before v w).1 (inr (less, comes))))
+      | inr last ↦ (more v w).1 (inr (omega arith, comes.1))
+    ]
+  ],
+)
+  where
+    first_edge : Has rows k from → Has old k from
+    first_edge h = elim ((before k from).0 h) [ inl first ↦ first | inr (below, comes) ↦ absurd (omega arith) ]
+
+pub not_joined : (old rows : List Row) (from : ℕ) (set : List ℕ) (k : ℕ) → AreJoined old rows from set k → (k ≢ from) → (Has rows k from → ⊥) → AreJoined old rows from set (k + 1)
+not_joined old rows from set k before other none v w = (
+  λ h. elim ((before v w).0 h) [ inl first ↦ inl first | inr (below, comes) ↦ inr (omega arith, comes) ],
+  λ h. elim h [
+    | inl first ↦ (before v w).1 (inl first)
+    | inr (below, comes) ↦ elim (cases_lt v k) [
+      | inl less ↦ (before v w).1 (inr (less, comes))
+      | inr last ↦ (let same : v ≡ k = omega arith in absurd (elim comes.0 [ inl is ↦ other (sym same ∙ is) | inr edge ↦ none ((before k from).1 (inl (subst (λ u. Has old u from) same edge))) ]))
+    ]
+  ],
+)
+
+pub all_joined : (old rows : List Row) (from : ℕ) (set : List ℕ) (k : ℕ) → AreJoined old rows from set k → from < length old → length old ≤ k → (v w : ℕ) → Has rows v w ↔ (Has old v w ⊎ ComesTo old from set v w)
+all_joined old rows from set k are within all v w = (
+  λ h. elim ((are v w).0 h) [ inl first ↦ inl first | inr (below, comes) ↦ inr comes ],
+  λ h. (are v w).1 (elim h [
+    | inl first ↦ inl first
+    | inr comes ↦ inr (elim comes.0 [ inl is ↦ omega arith | inr edge ↦ (let inside = has_within old v from edge in omega arith) ], comes)
+  ]),
+)
+
+-- All that comes behind a set goes to a vertex: what follows is there, and nothing else.
+module _ (old new : List Row) (from : ℕ) (set all : List ℕ) (transitive : IsTransitive old) (own : (w : ℕ) → IsIn set w → IsIn all w) (closed : ArePassed old all all) (only : (w : ℕ) → IsIn all w → IsBehind old set w)
+    (edges : (v w : ℕ) → Has new v w ↔ (Has old v w ⊎ ComesTo old from all v w)) where
+  comes_on : (v w : ℕ) → (v ≡ from) ⊎ Has old v from → IsIn all w → Has new v w
+  comes_on v w why among = (edges v w).1 (inr (why, among))
+
+  comes_before : (v w : ℕ) → Has old v w → (w ≡ from) ⊎ Has old w from → (v ≡ from) ⊎ Has old v from
+  comes_before v w edge (inl is) = inr (subst (λ u. Has old v u) is edge)
+  comes_before v w edge (inr more) = inr (transitive v w from edge more)
+
+  pub joined_transitive : IsTransitive new
+  joined_transitive u v w first second = elim ((edges u v).0 first) [
+    | inl a ↦ elim ((edges v w).0 second) [
+      | inl b ↦ (edges u w).1 (inl (transitive u v w a b))
+      | inr (why, among) ↦ comes_on u w (comes_before u v a why) among
+    ]
+    | inr (why, among) ↦ elim ((edges v w).0 second) [
+      | inl b ↦ comes_on u w why (closed v w among b)
+      | inr (more, further) ↦ comes_on u w why further
+    ]
+  ]
+
+  from_set : (w : ℕ) → IsBehind old set w → Follows old (FromOne from set) from w
+  from_set w (inl is) = extra (refl, is)
+  from_set w (inr (v, is, edge)) = joined (extra (refl, is)) (known edge)
+
+  joined_follows : (v w : ℕ) → Has old v w ⊎ ComesTo old from all v w → Follows old (FromOne from set) v w
+  joined_follows v w (inl before) = known before
+  joined_follows v w (inr (inl is, among)) = subst (λ u. Follows old (FromOne from set) u w) (sym is) (from_set w (only w among))
+  joined_follows v w (inr (inr edge, among)) = joined (known edge) (from_set w (only w among))
+
+  pub joined_gains : Gains old new (FromOne from set)
+  joined_gains = record {
+    kept = λ v w h. (edges v w).1 (inl h);
+    added = λ v w h. comes_on v w (inl h.0) (own w h.1);
+    follow = λ v w h. joined_follows v w ((edges v w).0 h);
+  }

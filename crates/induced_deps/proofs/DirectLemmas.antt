@@ -1,36 +1,17 @@
 -- The direct dependencies of a rule, gained edge by edge.
 use Rattle.std.specs.Prelude.{slice_index_or, Contains}
-use Rattle.std.proofs.Common.{◌≡◌, ℕ, ◌+◌, ◌<◌, ◌≤◌, ◌⊎◌, ◌↔◌, inl, inr, sym, ap, subst, ◌∙◌, arith, List, [], ◌∷◌, ◌++◌, length, take, add-one}
-use Rattle.std.proofs.Math.Seq.{take-suc}
-use Rattle.std.proofs.lemmas.List.Elements.{All-contains, Contains-append_left, Contains-append_right, Contains-append_cases}
-use Rattle.std.proofs.lemmas.Option.{get_or_from_slice_get, slice_get-get_or}
+use Rattle.std.proofs.Common.{◌≡◌, ℕ, ◌+◌, ◌<◌, ◌≤◌, ◌↔◌, inl, inr, sym, ap, subst, ◌∙◌, arith, List, [], length, take}
+use Rattle.std.proofs.lemmas.List.Elements.{All-contains}
+use Rattle.std.proofs.lemmas.Option.{get_or_from_slice_get}
 use Rattle.flat_grammar.specs.declared.flat.Occ.{Occ}
 use Rattle.flat_grammar.specs.declared.flat.FlatComp.{FlatComp}
 use Rattle.flat_grammar.specs.Rules.{dependencies}
-use Rattle.flat_grammar.proofs.Lists.{contains-nil, contains-first, contains-cons, contains-slice_get}
+use Rattle.flat_grammar.proofs.Lists.{contains-nil, contains-slice_get, take_less, take_here, take_cases}
 use Rattle.induced_deps.specs.declared.row.Row.{Row}
 use Rattle.induced_deps.specs.declared.graph.Place.{Place}
 use Rattle.induced_deps.specs.Rows.{IsIn, Gains, FromOne}
 use Rattle.induced_deps.specs.Vertices.{no_place, AreWithin, IsPlaced, number_in, ToGoal, OfComps}
 use Rattle.induced_deps.proofs.ClosureLemmas.{gains_none, gains_then}
-
-pub contains_at : {X : Type 0} (xs : List X) (k : ℕ) (d : X) → k < length xs → Contains xs (slice_index_or xs k d)
-contains_at xs k d within = contains-slice_get xs k (slice_index_or xs k d) (slice_get-get_or xs k d within)
-
-pub next_take : {X : Type 0} (xs : List X) (k : ℕ) (d : X) → k < length xs → take (k + 1) xs ≡ take k xs ++ slice_index_or xs k d ∷ []
-next_take xs k d within = rw add-one (take-suc xs k d within)
-
-pub take_less : {X : Type 0} (xs : List X) (k : ℕ) (d x : X) → k < length xs → Contains (take k xs) x → Contains (take (k + 1) xs) x
-take_less xs k d x within h = subst (λ ys. Contains ys x) (sym (next_take xs k d within)) (Contains-append_left (take k xs) (slice_index_or xs k d ∷ []) x h)
-
-pub take_here : {X : Type 0} (xs : List X) (k : ℕ) (d : X) → k < length xs → Contains (take (k + 1) xs) (slice_index_or xs k d)
-take_here xs k d within = subst (λ ys. Contains ys (slice_index_or xs k d)) (sym (next_take xs k d within)) (Contains-append_right (take k xs) (slice_index_or xs k d ∷ []) (slice_index_or xs k d) (contains-first (slice_index_or xs k d) []))
-
-pub take_cases : {X : Type 0} (xs : List X) (k : ℕ) (d x : X) → k < length xs → Contains (take (k + 1) xs) x → Contains (take k xs) x ⊎ (slice_index_or xs k d ≡ x)
-take_cases xs k d x within h = elim (Contains-append_cases (take k xs) (slice_index_or xs k d ∷ []) x (subst (λ ys. Contains ys x) (next_take xs k d within) h)) [
-  | inl before ↦ inl before
-  | inr last ↦ elim (contains-cons (slice_index_or xs k d) x [] last) [ inl same ↦ inr same | inr none ↦ absurd (contains-nil x none) ]
-]
 
 module _ (places : List Place) where
   -- a vertex of the places is one of so many

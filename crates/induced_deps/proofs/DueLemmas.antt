@@ -6,7 +6,7 @@ use Rattle.std.proofs.lemmas.List.{length-map, length-set, length-append, get_or
 use Rattle.std.proofs.Math.Seq.{get_or-append_seam, take-append_seam}
 use Rattle.std.proofs.lemmas.List.Elements.{Contains-append_left, Contains-append_right, Contains-append_cases}
 use Rattle.std.proofs.lemmas.Option.{get_or_from_slice_get, slice_get-get_or, slice_get_within}
-use Rattle.flat_grammar.proofs.Lists.{contains-nil, contains-first, contains-cons}
+use Rattle.flat_grammar.proofs.Lists.{contains-nil, contains-first, contains-cons, take_cases}
 use Rattle.induced_deps.specs.declared.graph.Place.{Place}
 use Rattle.induced_deps.specs.declared.growth.Graph.{Graph}
 use Rattle.induced_deps.specs.declared.due.Due.{Due}
@@ -15,7 +15,6 @@ use Rattle.induced_deps.specs.Vertices.{IsAtPlace}
 use Rattle.induced_deps.specs.Rounds.{IsBit, IsReady, Tells, rows_of}
 use Rattle.induced_deps.specs.Graphs.{AreUsers, AreDue, IsSettled}
 use Rattle.induced_deps.proofs.RowLemmas.{equal_or_not}
-use Rattle.induced_deps.proofs.DirectLemmas.{take_cases}
 
 -- ---- marks
 

@@ -16,7 +16,7 @@ use Rattle.flat_grammar.specs.declared.flat.FlatRule.{FlatRule}
 use Rattle.flat_grammar.specs.Rules.{symbols_of, symbol_at, attrs_of}
 use Rattle.flat_grammar.specs.WellFormed.{IsRule, is_nonterminal, is_nonterminal_symbol}
 use Rattle.flat_grammar.specs.Dependencies.{IDS, Joins, IsClosed, AreInducedRows, edge, induced, joined}
-use Rattle.flat_grammar.proofs.Lists.{held, contains-slice_get, slice_get-contains}
+use Rattle.flat_grammar.proofs.Lists.{held, contains-slice_get, slice_get-contains, next_take}
 use Rattle.flat_grammar.proofs.DependenciesLemmas.{IDS-least}
 use Rattle.flat_grammar.proofs.BitsLemmas.{empty-set}
 use Rattle.induced_deps.specs.declared.row.Row.{Row}
@@ -28,7 +28,6 @@ use Rattle.induced_deps.specs.Rounds.{IsBit, rows_of, OfPlaces, IsProjected, Has
 use Rattle.induced_deps.specs.Graphs.{IsJoined, IsGraph, AreGraphs, AreSoundRows, HaveRows, AreSettled}
 use Rattle.induced_deps.proofs.RowLemmas.{equal_or_not}
 use Rattle.induced_deps.proofs.VertexLemmas.{at_push}
-use Rattle.induced_deps.proofs.DirectLemmas.{next_take}
 use Rattle.induced_deps.proofs.ClosureLemmas.{follows_within}
 use Rattle.induced_deps.proofs.GraphLemmas.{one_vertex, joined_on, comp_vertices}
 
@@ -121,14 +120,14 @@ module _ (symbols : List FlatSymbol) (rules : List FlatRule) where
         let there : slice_get (map length ids) s.0 ≡ Some (length x.attrs) = ap (λ l. slice_get l s.0) (sym have) ∙ slice_get-map (λ (y : FlatSymbol). length y.attrs) symbols s.0 ∙ ap (option_map (λ (y : FlatSymbol). length y.attrs)) at in
         sym (get_or-map length ids s.0 []) ∙ get_or_from_slice_get (map length ids) s.0 (length x.attrs) 0 there ∙ ap length (sym attrs)
 
-    row_width : (s : SymId) → All (λ (x : FlatSymbol). length x.attrs ≤ 128) symbols → s.0 < length symbols → width symbols s ≤ 128
+    row_width : (s : SymId) → All (λ (x : FlatSymbol). length x.attrs ≤ 256) symbols → s.0 < length symbols → width symbols s ≤ 256
     row_width s few within =
         let (x, at) = some_at symbols s.0 within in
         let attrs : attrs_of symbols s ≡ x.attrs = ap (λ (y : Option FlatSymbol). elim y as (λ _. List FlatAttr) [ None ↦ [] | Some z ↦ z.attrs ]) at in
-        let small = All-contains (λ (y : FlatSymbol). length y.attrs ≤ 128) symbols x few (contains-slice_get symbols s.0 x at) in
-        subst (λ (l : List FlatAttr). length l ≤ 128) (sym attrs) small
+        let small = All-contains (λ (y : FlatSymbol). length y.attrs ≤ 256) symbols x few (contains-slice_get symbols s.0 x at) in
+        subst (λ (l : List FlatAttr). length l ≤ 256) (sym attrs) small
 
-    pub have_rows : (r : FlatRule) (places : List Place) → IsRule symbols r → All (λ (x : FlatSymbol). length x.attrs ≤ 128) symbols → ArePlaces symbols r places → All (HasRow ids) places
+    pub have_rows : (r : FlatRule) (places : List Place) → IsRule symbols r → All (λ (x : FlatSymbol). length x.attrs ≤ 256) symbols → ArePlaces symbols r places → All (HasRow ids) places
     have_rows r places rule few are k d inside =
         let p : Place = slice_index_or places k d in
         let is = are.each k p (slice_get-get_or places k d inside) in

@@ -1,43 +1,52 @@
 -- The induced dependencies as edges, gained row by row and place by place.
-use Rattle.std.specs.Prelude.{slice_index_or, All, Bool, true, false, IsTrue, IsFalse}
+use Rattle.std.specs.Prelude.{IsBitSet, slice_index_or, All, Bool, true, false, IsTrue, IsFalse}
 use Rattle.std.proofs.Common.{◌≡◌, ℕ, ◌+◌, ◌<◌, ◌≤◌, ◌⊎◌, ◌↔◌, inl, inr, sym, ap, subst, ◌∙◌, arith, List, [], length, take, map, true≢false}
 use Rattle.std.proofs.lemmas.Bool.{cases_order}
 use Rattle.std.proofs.lemmas.Option.{get_or_from_slice_get, slice_get-get_or}
 use Rattle.std.proofs.lemmas.List.{length-map}
 use Rattle.std.proofs.Math.ListN.{get_or-map}
 use Rattle.std.proofs.lemmas.List.Elements.{All-contains}
-use Rattle.flat_grammar.proofs.Lists.{contains-nil}
+use Rattle.flat_grammar.proofs.Lists.{contains-nil, contains_at, take_less, take_here, take_cases}
+use Rattle.flat_grammar.proofs.BitsLemmas.{is-set}
 use Rattle.induced_deps.specs.declared.row.Row.{Row}
 use Rattle.induced_deps.specs.declared.graph.Place.{Place}
-use Rattle.induced_deps.specs.Rows.{IsIn, Gains, FromOne}
+use Rattle.induced_deps.specs.Rows.{IsIn, Has, Gains, FromOne}
 use Rattle.induced_deps.specs.Vertices.{IsAtPlace}
-use Rattle.induced_deps.specs.Rounds.{OfRows, OfPlaces, HasRow, IsBit, IsAtSymbol, IsProjected, rows_of, room_of_all}
-use Rattle.induced_deps.proofs.ClosureLemmas.{gains_none, gains_then}
-use Rattle.induced_deps.proofs.DirectLemmas.{contains_at, take_less, take_here, take_cases}
+use Rattle.induced_deps.specs.Rounds.{OfRow, OfRows, OfPlaces, HasRow, IsBit, IsAtSymbol, IsProjected, rows_of, room_of_all}
+use Rattle.induced_deps.proofs.ClosureLemmas.{gains_none, gains_then, gains_there, gains_more}
 
 pub no_rows : (edges : List Row) (p : Place) (rows : List ℕ) → Gains edges edges (OfRows p rows 0)
 no_rows edges p rows = gains_none edges (OfRows p rows 0) (λ v w h. let below = h.1 in absurd (omega arith))
 
-pub one_row_more : (old middle new : List Row) (p : Place) (rows : List ℕ) (a d : ℕ) (words : List ℕ) → a < length rows → ((w : ℕ) → IsIn words w ↔ IsAtPlace p (slice_index_or rows a d) w)
-    → Gains old middle (OfRows p rows a) → Gains middle new (FromOne (p.offset + a) words) → Gains old new (OfRows p rows (a + 1))
-one_row_more old middle new p rows a d words within only first second =
-    gains_then old middle new (OfRows p rows a) (FromOne (p.offset + a) words) (OfRows p rows (a + 1))
+pub one_row_more : (old middle new : List Row) (p : Place) (rows : List ℕ) (a d row : ℕ) → a < length rows → row ≡ slice_index_or rows a d
+    → Gains old middle (OfRows p rows a) → Gains middle new (OfRow p (p.offset + a) row) → Gains old new (OfRows p rows (a + 1))
+one_row_more old middle new p rows a d row within is first second =
+    gains_then old middle new (OfRows p rows a) (OfRow p (p.offset + a) row) (OfRows p rows (a + 1))
     (λ v w h. (h.0, (let below = h.1 in omega arith), h.2, h.3))
-    (λ v w h. (a, omega arith, h.0, here w ((only w).0 h.1)))
+    (λ v w h. (a, omega arith, h.0, subst (λ r. IsAtPlace p r w) same_row h.1))
     (λ v w h. elim (cases_order h.0 a) [
-      | inl same ↦ inr (h.2 ∙ ap (λ k. p.offset + k) same, (only w).1 (there w (subst (λ k. IsAtPlace p (slice_index_or rows k 0) w) same h.3)))
+      | inl same ↦ inr (h.2 ∙ ap (λ k. p.offset + k) same, subst (λ r. IsAtPlace p r w) (sym same_row) (subst (λ k. IsAtPlace p (slice_index_or rows k 0) w) same h.3))
       | inr other ↦ elim other [ inl below ↦ inl (h.0, below, h.2, h.3) | inr above ↦ (let most = h.1 in absurd (omega arith)) ]
     ])
     first second
   where
-    same_row : slice_index_or rows a d ≡ slice_index_or rows a 0
-    same_row = get_or_from_slice_get rows a (slice_index_or rows a 0) d (slice_get-get_or rows a 0 within)
+    same_row : row ≡ slice_index_or rows a 0
+    same_row = is ∙ get_or_from_slice_get rows a (slice_index_or rows a 0) d (slice_get-get_or rows a 0 within)
 
-    here : (w : ℕ) → IsAtPlace p (slice_index_or rows a d) w → IsAtPlace p (slice_index_or rows a 0) w
-    here w h = subst (λ row. IsAtPlace p row w) same_row h
+-- One row, of which the new attributes alone are joined.
+module _ (old : List Row) (p : Place) (from row known_row : ℕ) (is_known : (b : ℕ) → IsBitSet known_row b ↔ ((b < p.width) × Has old from (p.offset + b))) where
+  pub row_there : ((j : ℕ) → IsBitSet row j → IsBitSet known_row j) → Gains old old (OfRow p from row)
+  row_there all = gains_there old (OfRow p from row) (λ v w (same, (b, below, bit, is)). subst (λ u. Has old u w) (sym same) (subst (Has old from) (sym is) ((is_known b).0 (all b bit)).1))
 
-    there : (w : ℕ) → IsAtPlace p (slice_index_or rows a 0) w → IsAtPlace p (slice_index_or rows a d) w
-    there w h = subst (λ row. IsAtPlace p row w) (sym same_row) h
+  pub row_joined : (new : List Row) (rest : ℕ) (words : List ℕ) → ((j : ℕ) → IsBitSet rest j ↔ (IsBitSet row j × (IsBitSet known_row j → ⊥))) → ((w : ℕ) → IsIn words w ↔ IsAtPlace p rest w) → Gains old new (FromOne from words)
+      → Gains old new (OfRow p from row)
+  row_joined new rest words is_rest is_words gains = gains_more old new (FromOne from words) (OfRow p from row)
+      (λ v w h. (let (b, below, bit, is) = (is_words w).0 h.1 in (h.0, (b, below, ((is_rest b).0 bit).0, is))))
+      (λ v w (same, (b, below, bit, is)). elim (is-set known_row b) [
+        | inl known ↦ inr (subst (λ u. Has old u w) (sym same) (subst (Has old from) (sym is) ((is_known b).0 known).1))
+        | inr not ↦ inl (same, (is_words w).1 (b, below, (is_rest b).1 (bit, not), is))
+      ])
+      gains
 
 pub no_places : (edges : List Row) (ids : List (List ℕ)) → Gains edges edges (OfPlaces ids [])
 no_places edges ids = gains_none edges (OfPlaces ids []) (λ v w h. contains-nil h.0 h.1)

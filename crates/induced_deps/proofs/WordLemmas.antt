@@ -1,13 +1,14 @@
 -- Words whose bits are moved.
-use Rattle.std.specs.Prelude.{IsBitSet, slice_index_or, slice_set, ◌/◌, ◌%◌, ◌^◌, ◌*◌, ◌-◌, bit_and, min}
-use Rattle.std.specs.Int.{bit_at, trailing_zeros, w128}
-use Rattle.std.proofs.Common.{◌≡◌, ℕ, zero, suc, refl, ◌+◌, ◌<◌, ◌≤◌, ◌↔◌, ◌⊎◌, inl, inr, sym, ap, subst, ◌∙◌, arith, List, length}
+use Rattle.std.specs.Prelude.{IsBitSet, slice_index_or, slice_set, ◌/◌, ◌%◌, ◌^◌, ◌*◌, ◌-◌}
+use Rattle.std.specs.Int.{bit_at}
+use Rattle.std.proofs.Common.{◌≡◌, ℕ, ◌+◌, ◌<◌, ◌≤◌, ◌↔◌, ◌⊎◌, inl, inr, sym, ap, subst, ◌∙◌, arith, List, length}
 use Rattle.std.proofs.Math.Nat.{div-div-eq-div-mul, div-add-mod}
 use Rattle.std.proofs.lemmas.Bool.{cases_lt}
 use Rattle.std.proofs.lemmas.List.{get_or-set_same, get_or-set_other}
-use Rattle.std.proofs.lemmas.Nat.{div-add-mod', mod_below, pow-add, bit_set_by_shift, and_le_l}
-use Rattle.std.proofs.lemmas.Nat.Bits.{bit_at-zero, bit_at_cat_low, bit_at_cat_high, shr_and_one, bit_at-lt, bit_at_and, bit_at_not, bit_at-trailing_zeros}
-use Rattle.flat_grammar.proofs.BitsLemmas.{not-above, empty-set, is-set}
+use Rattle.std.proofs.lemmas.Nat.{div-add-mod', mod_below, pow-add, bit_set_by_shift}
+use Rattle.std.proofs.lemmas.Nat.Bits.{bit_at-zero, bit_at_cat_low, bit_at_cat_high, shr_and_one}
+use Rattle.flat_grammar.proofs.BitsLemmas.{not-above, empty-set, by_halves, low_bits, high_bits}
+use Rattle.flat_grammar.specs.Halves.{number_of}
 use Rattle.induced_deps.specs.Rows.{IsIn}
 use Rattle.induced_deps.proofs.RowLemmas.{equal_or_not}
 use lib.Pow.{pow_pos}
@@ -183,34 +184,33 @@ put_in words i word new within few both j = elim (equal_or_not (j / 128) i) [
   ))
 ]
 
-unset_of : (n k : ℕ) → (IsBitSet n k → ⊥) → bit_at n k ≡ 0
-unset_of n k none = go (bit_at n k) refl (bit_at-lt n k)
-  where
-    go : (b : ℕ) → bit_at n k ≡ b → b < 2 → bit_at n k ≡ 0
-    go zero e l = e
-    go (suc zero) e l = absurd (none (set_of n k e))
-    go (suc (suc b)) e l = absurd (omega arith)
+-- ---- sets of two words
 
--- What a word has that the other has not.
-module _ (word other : ℕ) (small : word < 2 ^ 128) (fits : other < 2 ^ 128) where
-  abbrev beside : ℕ
-  beside = bit_and word (2 ^ 128 - 1 - other)
+-- the bits of both words below a place
+pub first_halves : (n low high first second count : ℕ) → number_of low high ≡ n → low < 2 ^ 128 → first < 2 ^ 128 → ((k : ℕ) → IsBitSet first k ↔ ((k < count) × IsBitSet low k)) → ((k : ℕ) → IsBitSet second k ↔ ((k < count - 128) × IsBitSet high k))
+    → (k : ℕ) → IsBitSet (number_of first second) k ↔ ((k < count) × IsBitSet n k)
+first_halves n low high first second count is small fits is_first is_second = by_halves first second (λ k. (k < count) × IsBitSet n k) fits
+    (λ k b. let e = low_bits n low high k is b in (λ h. (let p = (is_first k).0 h in (p.0, e.0 p.1)), λ p. (is_first k).1 (p.0, e.1 p.1)))
+    (λ k a. let e = high_bits n low high k is small a in (λ h. (let p = (is_second (k - 128)).0 h in (omega arith, e.0 p.1)), λ p. (is_second (k - 128)).1 (omega arith, e.1 p.1)))
 
-  beside_at : (k : ℕ) → k < 128 → bit_at beside k ≡ min (bit_at word k) (1 - bit_at other k)
-  beside_at k within = bit_at_and word (2 ^ 128 - 1 - other) k ∙ ap (λ b. min (bit_at word k) b) (bit_at_not w128 other k fits within)
+-- two sets of vertices, one for each word
+pub from_halves : (n low high by : ℕ) (first second both : List ℕ) → number_of low high ≡ n → low < 2 ^ 128
+    → ((j : ℕ) → IsIn first j ↔ ((j < 1024) × (by ≤ j) × IsBitSet low (j - by))) → ((j : ℕ) → IsIn second j ↔ ((j < 1024) × (by + 128 ≤ j) × IsBitSet high (j - (by + 128))))
+    → ((j : ℕ) → IsIn both j ↔ (IsIn first j ⊎ IsIn second j)) → (j : ℕ) → IsIn both j ↔ ((j < 1024) × (by ≤ j) × IsBitSet n (j - by))
+from_halves n low high by first second both is small is_first is_second joined j = (
+  λ h. elim ((joined j).0 h) [
+    | inl one ↦ (let p = (is_first j).0 one in (p.0, p.1, elim (cases_lt (j - by) 128) [ inl b ↦ (low_bits n low high (j - by) is b).0 p.2 | inr a ↦ absurd (not-above low 128 (j - by) small a p.2) ]))
+    | inr two ↦ (let p = (is_second j).0 two in let far = p.1 in (p.0, omega arith, (high_bits n low high (j - by) is small (omega arith)).0 (subst (IsBitSet high) (omega arith) p.2)))
+  ],
+  λ p. (joined j).1 (elim (cases_lt (j - by) 128) [
+    | inl b ↦ inl ((is_first j).1 (p.0, p.1, (low_bits n low high (j - by) is b).1 p.2))
+    | inr a ↦ inr ((is_second j).1 (p.0, omega arith, subst (IsBitSet high) (omega arith) ((high_bits n low high (j - by) is small a).1 p.2)))
+  ]),
+)
 
-  pub none_beside : beside ≡ 0 → (k : ℕ) → IsBitSet word k → IsBitSet other k
-  none_beside none k h = elim (cases_lt k 128) [
-    | inr past ↦ absurd (not-above word 128 k small past h)
-    | inl within ↦ elim (is-set other k) [
-      | inl is ↦ is
-      | inr not ↦ (let one = one_of word k h in let zero = unset_of other k not in let at = beside_at k within in let no = ap (λ n. bit_at n k) none ∙ bit_at-zero k in absurd (omega arith))
-    ]
-  ]
-
-  pub one_beside : 0 < beside → (trailing_zeros w128 beside < 128) × IsBitSet word (trailing_zeros w128 beside) × (IsBitSet other (trailing_zeros w128 beside) → ⊥)
-  one_beside some =
-      let (within, one, least) = bit_at-trailing_zeros w128 beside some (let less = and_le_l word (2 ^ 128 - 1 - other) in omega arith) in
-      let at = beside_at (trailing_zeros w128 beside) within in
-      let high = bit_at-lt word (trailing_zeros w128 beside) in
-      (within, set_of word (trailing_zeros w128 beside) (omega arith), λ h. (let other_one = one_of other (trailing_zeros w128 beside) h in absurd (omega arith)))
+-- two words of a set of vertices
+pub seen_halves : (words : List ℕ) (from low high : ℕ) → low < 2 ^ 128 → ((b : ℕ) → IsBitSet low b ↔ ((b < 128) × IsIn words (from + b))) → ((b : ℕ) → IsBitSet high b ↔ ((b < 128) × IsIn words (from + 128 + b)))
+    → (b : ℕ) → IsBitSet (number_of low high) b ↔ ((b < 256) × IsIn words (from + b))
+seen_halves words from low high fits is_low is_high = by_halves low high (λ b. (b < 256) × IsIn words (from + b)) fits
+    (λ b l. (λ h. (let p = (is_low b).0 h in (omega arith, p.1)), λ p. (is_low b).1 (l, p.1)))
+    (λ b a. (λ h. (let p = (is_high (b - 128)).0 h in (omega arith, subst (IsIn words) (omega arith) p.1)), λ p. (is_high (b - 128)).1 (omega arith, subst (IsIn words) (omega arith) p.1)))

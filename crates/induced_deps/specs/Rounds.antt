@@ -15,6 +15,10 @@ IsBit rows a b = IsBitSet (slice_index_or rows a 0) b
 abbrev pub rows_of : List (List ℕ) → ℕ → List ℕ
 rows_of ids x = slice_index_or ids x []
 
+-- edges from a vertex at a place, by the row of its attribute
+abbrev pub OfRow : Place → ℕ → ℕ → ℕ → ℕ → Type 0
+OfRow p from row v w = (v ≡ from) × IsAtPlace p row w
+
 -- edges at a place, by the first rows of its symbol
 abbrev pub OfRows : Place → List ℕ → ℕ → ℕ → ℕ → Type 0
 OfRows p rows count v w = (a : ℕ) × (a < count) × (v ≡ p.offset + a) × IsAtPlace p (slice_index_or rows a 0) w
@@ -27,15 +31,19 @@ OfPlaces ids places v w = (p : Place) × Contains places p × OfRows p (rows_of 
 pub record HasRow (ids : List (List ℕ)) (p : Place) : Type 0 where
   pub within : p.symbol.0 < length ids
   pub size : length (rows_of ids p.symbol.0) ≡ p.width
-  pub few : p.width ≤ 128
+  pub few : p.width ≤ 256
 
--- how much the rows can still grow
+-- how much the words of a set of vertices can still grow
 abbrev pub room : List ℕ → ℕ
-room rows = sum_by (λ row. 2 ^ 128 - row) rows
+room words = sum_by (λ word. 2 ^ 128 - word) words
+
+-- how much the rows of a symbol can still grow
+abbrev pub room_of_rows : List ℕ → ℕ
+room_of_rows rows = sum_by (λ row. 2 ^ 256 - row) rows
 
 -- how much the rows of all symbols can still grow
 abbrev pub room_of_all : List (List ℕ) → ℕ
-room_of_all ids = sum_by room ids
+room_of_all ids = sum_by room_of_rows ids
 
 -- an edge joins two vertices of a place, which is one of this symbol
 pub record IsAtSymbol (place : Place) (edges : List Row) (x a b : ℕ) : Type 0 where

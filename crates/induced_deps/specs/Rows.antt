@@ -1,5 +1,5 @@
 -- Sets of vertices as rows of words, and relations as lists of rows.
-use Rattle.std.specs.Prelude.{◌≡◌, ◌<◌, ◌⊎◌, ℕ, ◌/◌, ◌%◌, List, [], length, slice_index_or, IsBitSet}
+use Rattle.std.specs.Prelude.{◌≡◌, ◌⊎◌, ℕ, ◌/◌, ◌%◌, List, [], slice_index_or, IsBitSet}
 use Rattle.induced_deps.specs.declared.row.Row.{Row}
 
 -- the set has the number: 128 numbers to a word
@@ -30,6 +30,14 @@ module _ (rows : List Row) where
   -- all that comes right behind the passed ones is in the set
   abbrev pub ArePassed : List ℕ → List ℕ → Type 0
   ArePassed passed all = (w x : ℕ) → IsIn passed w → Has w x → IsIn all x
+
+  -- the vertex is in the set, or an edge leads to it from one of the set
+  abbrev pub IsBehind : List ℕ → ℕ → Type 0
+  IsBehind set w = IsIn set w ⊎ ((v : ℕ) × IsIn set v × Has v w)
+
+  -- an edge from the vertex, or from one that comes before it, to one of the set
+  abbrev pub ComesTo : ℕ → List ℕ → ℕ → ℕ → Type 0
+  ComesTo from set v w = ((v ≡ from) ⊎ Has v from) × IsIn set w
 
 -- What edges and extra ones say together: they themselves, and paths of them.
 pub data Follows (rows : List Row) (Extra : ℕ → ℕ → Type 0) : ℕ → ℕ → Type 0 where

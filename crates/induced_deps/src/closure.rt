@@ -1,6 +1,6 @@
 //! A relation between the vertices of a rule, and all that follows from it.
-ghost use Rattle.std.specs.Prelude.{◌≡◌, ◌<◌, ◌↔◌, ◌⊎◌, ℕ, IsTrue, IsFalse, IfOk, length};
-ghost use Rattle.induced_deps.specs.Rows.{IsIn, Has, IsTransitive, IsClosedAt, ArePassed, Follows, Nothing, Gains, FromOne};
+ghost use Rattle.std.specs.Prelude.{◌≡◌, ◌<◌, ◌≤◌, ◌↔◌, ◌⊎◌, ℕ, IsTrue, IfOk, length};
+ghost use Rattle.induced_deps.specs.Rows.{IsIn, Has, IsTransitive, IsClosedAt, ArePassed, Follows, Nothing, Gains, FromOne, IsBehind, ComesTo};
 ghost use Rattle.induced_deps.specs.Rounds.{room};
 
 use crate::row::Row;
@@ -35,18 +35,13 @@ impl Closure {
         self.rows[from].has(to)
     }
 
-    /// Adds edges from a vertex to all vertices of the set, and tells whether any was new. What follows from them isn't added.
-    pub fn join(&mut self, from: usize, set: &Row) -> bool
+    /// Adds edges from a vertex to all vertices of the set. What follows from them isn't added.
+    pub fn join(&mut self, from: usize, set: &Row)
         requires { from < length self.old.rows.items }
         ensures size { length self.new.rows.items ≡ length self.old.rows.items }
         ensures edges { Gains self.old.rows.items self.new.rows.items (FromOne from set.now.words) }
-        ensures same { IsFalse result → self.new.rows.items ≡ self.old.rows.items }
     {
-        if set.is_within(&self.rows[from]) {
-            return false;
-        }
         self.rows[from].join(set);
-        true
     }
 
     /// The row of a vertex, without numbers where there is no such vertex.
@@ -59,11 +54,11 @@ impl Closure {
         }
     }
 
-    /// Passes a vertex: all that its row has is put into the set, and the vertex among the passed ones. Where the vertex is greater
-    /// than `from` its row has all that comes behind it, and is passed as a whole.
-    fn pass(&self, from: usize, v: usize, all: &mut Row, passed: &mut Row)
+    /// Passes a vertex: all that its row has is put into the set, and the vertex among the passed ones. A row that has all that comes
+    /// behind its vertex is passed as a whole.
+    fn pass(&self, v: usize, whole: bool, all: &mut Row, passed: &mut Row)
         requires small { v < 1024 }
-        requires closed { (u : ℕ) → from < u → IsClosedAt self.now.rows.items u }
+        requires closed { IsTrue whole → IsClosedAt self.now.rows.items v }
         requires passed { ArePassed self.now.rows.items passed.old.words all.old.words }
         ensures all { (w : ℕ) → IsIn all.new.words w ↔ (IsIn all.old.words w ⊎ Has self.now.rows.items v w) }
         ensures passed { ArePassed self.now.rows.items passed.new.words all.new.words }
@@ -72,7 +67,7 @@ impl Closure {
         let row = self.row_of(v);
         all.join(&row);
         passed.add(v);
-        if v > from {
+        if whole {
             passed.join(&row);
         }
     }
@@ -88,9 +83,52 @@ impl Closure {
         let mut all = self.rows[from];
         let mut passed = Row::new();
         while let Some(v) = all.first_beside(&passed) {
-            self.pass(from, v, &mut all, &mut passed);
+            self.pass(v, v > from, &mut all, &mut passed);
         }
         all
+    }
+
+    /// The set with all that comes behind its vertices, where a path of two edges is an edge.
+    fn with_behind(&self, set: &Row) -> Row
+        requires { IsTransitive self.now.rows.items }
+        ensures own { (w : ℕ) → IsIn set.now.words w → IsIn result.words w }
+        ensures closed { ArePassed self.now.rows.items result.words result.words }
+        ensures only { (w : ℕ) → IsIn result.words w → IsBehind self.now.rows.items set.now.words w }
+    {
+        let mut all = *set;
+        let mut passed = Row::new();
+        while let Some(v) = set.first_beside(&passed) {
+            self.pass(v, true, &mut all, &mut passed);
+        }
+        all
+    }
+
+    /// Puts the set into the row of a vertex and into those of all vertices that come before it.
+    fn join_before(&mut self, from: usize, set: &Row)
+        requires vertex { from < length self.old.rows.items }
+        requires small { from < 1024 }
+        ensures size { length self.new.rows.items ≡ length self.old.rows.items }
+        ensures edges { (v w : ℕ) → Has self.new.rows.items v w ↔ (Has self.old.rows.items v w ⊎ ComesTo self.old.rows.items from set.now.words v w) }
+    {
+        for v in 0..self.rows.len() {
+            if v == from || self.rows[v].has(from) {
+                self.rows[v].join(set);
+            }
+        }
+    }
+
+    /// Adds edges from a vertex to all vertices of the set, and all that follow, where a path of two edges is an edge and stays one:
+    /// what comes behind the set goes into the row of the vertex and into those of all that come before it.
+    pub fn join_closed(&mut self, from: usize, set: &Row)
+        requires vertex { from < length self.old.rows.items }
+        requires small { from < 1024 }
+        requires transitive { IsTransitive self.old.rows.items }
+        ensures size { length self.new.rows.items ≡ length self.old.rows.items }
+        ensures transitive { IsTransitive self.new.rows.items }
+        ensures edges { Gains self.old.rows.items self.new.rows.items (FromOne from set.now.words) }
+    {
+        let all = self.with_behind(set);
+        self.join_before(from, &all);
     }
 
     /// Adds all edges that follow: then a path of two edges is an edge. The vertices are taken from the last to the first, each with

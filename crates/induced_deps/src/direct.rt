@@ -9,26 +9,26 @@ ghost use Rattle.induced_deps.specs.Vertices.{AreWithin, HasPlaces, IsAtPlace, I
 use crate::closure::Closure;
 use crate::graph::Place;
 use crate::row::Row;
-use crate::words::below;
-use flat_grammar::{FlatComp, Occ, dependencies_of};
+use crate::shifts::first_bits;
+use flat_grammar::{Bits, FlatComp, Occ, dependencies_of};
 use lido_base::Memory;
 use std::alloc::Global;
 
-/// The vertices at a place whose attributes are in the word.
-pub fn vertices_of(word: u128, place: Place) -> Row
+/// The vertices at a place whose attributes are in the set.
+pub fn vertices_of(bits: Bits, place: Place) -> Row
     requires { place.offset + place.width ≤ 1024 }
-    ensures { (w : ℕ) → IsIn result.words w ↔ IsAtPlace place word w }
+    ensures { (w : ℕ) → IsIn result.words w ↔ IsAtPlace place bits w }
 {
-    Row::from_word(below(word, place.width), place.offset)
+    Row::from_bits(first_bits(bits, place.width), place.offset)
 }
 
 /// The attributes at a place whose vertices are in the row.
-pub fn attributes_of(row: &Row, place: Place) -> u128
+pub fn attributes_of(row: &Row, place: Place) -> Bits
     requires within { place.offset + place.width ≤ 1024 }
-    requires few { place.width ≤ 128 }
+    requires few { place.width ≤ 256 }
     ensures { (b : ℕ) → IsBitSet result b ↔ ((b < place.width) × IsIn row.now.words (place.offset + b)) }
 {
-    below(row.window(place.offset), place.width)
+    first_bits(row.bits_from(place.offset), place.width)
 }
 
 /// The number of a vertex.

@@ -12,7 +12,7 @@ use crate::direct::add_comps;
 use crate::due::{Due, add_user};
 use crate::graph::{Place, places_of};
 use crate::rounds::{add_induced, project};
-use flat_grammar::{Deps, Flat, FlatRule};
+use flat_grammar::{Bits, Deps, Flat, FlatRule};
 use lido_base::{List, Memory};
 use std::alloc::Global;
 
@@ -35,7 +35,7 @@ fn graph_of(alloc: Global, flat: &Flat, rule: &FlatRule) -> Result<Graph, Memory
 }
 
 /// Lets the edges of a rule and the rows of the symbols feed each other once, and tells whether a row grew.
-fn step(graph: &mut Graph, ids: &mut [List<u128>], due: &mut Due) -> bool
+fn step(graph: &mut Graph, ids: &mut [List<Bits>], due: &mut Due) -> bool
     requires rows { All (HasRow ids.old) graph.old.places.items }
     requires within { AreWithin graph.old.places.items (length graph.old.closure.rows.items) }
     requires few { length graph.old.closure.rows.items ≤ 1024 }
@@ -63,7 +63,7 @@ fn visit(
     flat: &Flat,
     rule: usize,
     graphs: &mut [Graph],
-    ids: &mut [List<u128>],
+    ids: &mut [List<Bits>],
     due: &mut Due,
 ) -> bool
     requires rule { rule < length flat.now.rules }
@@ -102,7 +102,7 @@ fn round(
     flat: &Flat,
     back: bool,
     graphs: &mut [Graph],
-    ids: &mut [List<u128>],
+    ids: &mut [List<Bits>],
     due: &mut Due,
 ) -> bool
     requires graphs { AreGraphs flat.now.symbols flat.now.rules graphs.old }
@@ -127,7 +127,7 @@ fn round(
 }
 
 /// Goes over all rules, to and fro, until no row grows.
-fn grow(flat: &Flat, graphs: &mut [Graph], ids: &mut [List<u128>], due: &mut Due)
+fn grow(flat: &Flat, graphs: &mut [Graph], ids: &mut [List<Bits>], due: &mut Due)
     requires graphs { AreGraphs flat.now.symbols flat.now.rules graphs.old }
     requires rows { HaveRows flat.now.symbols ids.old }
     requires sound { AreSoundRows flat.now.symbols flat.now.rules ids.old }
@@ -152,17 +152,17 @@ fn graphs_of(alloc: Global, flat: &Flat) -> Result<Vec<Graph>, Memory>
 }
 
 /// So many rows without bits.
-fn zeros(alloc: Global, count: usize) -> Result<Vec<u128>, Memory>
+fn zeros(alloc: Global, count: usize) -> Result<Vec<Bits>, Memory>
     ensures size { IfOk result (λ rows. length rows.items ≡ count) }
     ensures zero { IfOk result (λ rows. All (λ row. row ≡ 0) rows.items) }
 {
     let mut rows = Vec::new(alloc);
-    rows.resize(count, 0)?;
+    rows.resize(count, Bits::empty())?;
     Ok(rows)
 }
 
 /// Rows without bits, one for each attribute of each symbol.
-fn empty_rows(alloc: Global, flat: &Flat) -> Result<Vec<List<u128>>, Memory>
+fn empty_rows(alloc: Global, flat: &Flat) -> Result<Vec<List<Bits>>, Memory>
     ensures rows { IfOk result (λ ids. HaveRows flat.now.symbols ids.items) }
     ensures none { IfOk result (λ ids. (x a b : ℕ) → IsBit (rows_of ids.items x) a b → ⊥) }
 {

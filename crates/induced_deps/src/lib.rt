@@ -8,8 +8,6 @@ mod graph;
 mod growth;
 mod rounds;
 mod row;
-#[cfg(test)]
-mod tests;
-mod words;
+mod shifts;
 
 pub use growth::induce;

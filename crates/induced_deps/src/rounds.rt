@@ -1,54 +1,52 @@
 //! How the induced dependencies of symbols and the edges of rules feed each other.
 ghost use Rattle.std.specs.Prelude.{◌≡◌, ◌+◌, ◌<◌, ◌≤◌, ◌↔◌, ◌⊎◌, ◌≢◌, ℕ, IsTrue, IsFalse, IsBitSet, All, length, map};
 ghost use Rattle.induced_deps.specs.Rows.{Gains, Has, IsTransitive};
-ghost use Rattle.induced_deps.specs.Rounds.{HasRow, IsAtSymbol, IsBit, IsProjected, IsReady, OfPlaces, OfRows, Tells, room, room_of_all, rows_of};
+ghost use Rattle.induced_deps.specs.Rounds.{HasRow, IsAtSymbol, IsBit, IsProjected, IsReady, OfPlaces, OfRow, OfRows, Tells, room_of_rows, room_of_all, rows_of};
 ghost use Rattle.induced_deps.specs.Vertices.{AreWithin};
 
 use crate::closure::Closure;
 use crate::direct::{attributes_of, vertices_of};
 use crate::due::Due;
 use crate::graph::Place;
-use flat_grammar::bits;
+use flat_grammar::Bits;
 use lido_base::List;
 
-/// Adds edges between the vertices of a place, by the rows of its symbol, and tells whether any was new.
-fn join_rows(place: Place, rows: &[u128], closure: &mut Closure) -> bool
-    requires size { length rows.now ≡ place.width }
+/// Adds edges from a vertex of a place, by the row of its attribute, and what follows from them.
+fn join_row(place: Place, a: usize, row: Bits, closure: &mut Closure)
+    requires attribute { a < place.width }
+    requires wide { place.width ≤ 256 }
     requires within { place.offset + place.width ≤ length closure.old.rows.items }
     requires few { length closure.old.rows.items ≤ 1024 }
+    requires transitive { IsTransitive closure.old.rows.items }
     ensures size { length closure.new.rows.items ≡ length closure.old.rows.items }
-    ensures edges { Gains closure.old.rows.items closure.new.rows.items (OfRows place rows.now place.width) }
-    ensures same { IsFalse result → closure.new.rows.items ≡ closure.old.rows.items }
+    ensures transitive { IsTransitive closure.new.rows.items }
+    ensures edges { Gains closure.old.rows.items closure.new.rows.items (OfRow place (place.offset + a) row) }
 {
-    let mut grew = false;
-    for (a, row) in rows.iter().enumerate() {
-        if closure.join(place.offset + a, &vertices_of(*row, place)) {
-            grew = true;
-        }
+    let from = place.offset + a;
+    let known = attributes_of(&closure.rows[from], place);
+    if !row.is_within(known) {
+        closure.join_closed(from, &vertices_of(row.without(known), place));
     }
-    grew
 }
 
-/// Adds edges between the vertices of each place, by the rows of its symbol, and tells whether any was new.
-fn join_induced(places: &[Place], ids: &[List<u128>], closure: &mut Closure) -> bool
-    requires rows { All (HasRow ids.now) places.now }
-    requires within { AreWithin places.now (length closure.old.rows.items) }
+/// Adds edges between the vertices of a place, by the rows of its symbol, and what follows from them.
+fn join_rows(place: Place, rows: &[Bits], closure: &mut Closure)
+    requires size { length rows.now ≡ place.width }
+    requires wide { place.width ≤ 256 }
+    requires within { place.offset + place.width ≤ length closure.old.rows.items }
     requires few { length closure.old.rows.items ≤ 1024 }
+    requires transitive { IsTransitive closure.old.rows.items }
     ensures size { length closure.new.rows.items ≡ length closure.old.rows.items }
-    ensures edges { Gains closure.old.rows.items closure.new.rows.items (OfPlaces ids.now places.now) }
-    ensures same { IsFalse result → closure.new.rows.items ≡ closure.old.rows.items }
+    ensures transitive { IsTransitive closure.new.rows.items }
+    ensures edges { Gains closure.old.rows.items closure.new.rows.items (OfRows place rows.now place.width) }
 {
-    let mut grew = false;
-    for place in places {
-        if join_rows(*place, ids[place.symbol.0 as usize].as_slice(), closure) {
-            grew = true;
-        }
+    for (a, row) in rows.iter().enumerate() {
+        join_row(place, a, *row, closure);
     }
-    grew
 }
 
 /// Adds edges between the vertices of each place, by the rows of its symbol, and what follows from them.
-pub fn add_induced(places: &[Place], ids: &[List<u128>], closure: &mut Closure)
+pub fn add_induced(places: &[Place], ids: &[List<Bits>], closure: &mut Closure)
     requires rows { All (HasRow ids.now) places.now }
     requires within { AreWithin places.now (length closure.old.rows.items) }
     requires few { length closure.old.rows.items ≤ 1024 }
@@ -57,42 +55,42 @@ pub fn add_induced(places: &[Place], ids: &[List<u128>], closure: &mut Closure)
     ensures transitive { IsTransitive closure.new.rows.items }
     ensures edges { Gains closure.old.rows.items closure.new.rows.items (OfPlaces ids.now places.now) }
 {
-    if join_induced(places, ids, closure) {
-        closure.close();
+    for place in places {
+        join_rows(*place, ids[place.symbol.0 as usize].as_slice(), closure);
     }
 }
 
-/// Puts the attributes of the word into a row, and tells whether any was new.
-fn put(rows: &mut [u128], a: usize, word: u128) -> bool
+/// Puts the attributes of the set into a row, and tells whether any was new.
+fn put(rows: &mut [Bits], a: usize, set: Bits) -> bool
     requires { a < length rows.old }
     ensures size { length rows.new ≡ length rows.old }
-    ensures bits { (k b : ℕ) → IsBit rows.new k b ↔ (IsBit rows.old k b ⊎ ((k ≡ a) × IsBitSet word b)) }
+    ensures bits { (k b : ℕ) → IsBit rows.new k b ↔ (IsBit rows.old k b ⊎ ((k ≡ a) × IsBitSet set b)) }
     ensures same { IsFalse result → rows.new ≡ rows.old }
-    ensures less { IsTrue result → room rows.new < room rows.old }
+    ensures less { IsTrue result → room_of_rows rows.new < room_of_rows rows.old }
 {
-    if bits::is_within(word, rows[a]) {
+    if set.is_within(rows[a]) {
         return false;
     }
-    rows[a] = bits::union(rows[a], word);
+    rows[a] = rows[a].union(set);
     true
 }
 
 /// Puts the edges between the vertices of a place into the rows of its symbol, and tells whether any was new.
-fn project_at(place: Place, closure: &Closure, rows: &mut [u128]) -> bool
+fn project_at(place: Place, closure: &Closure, rows: &mut [Bits]) -> bool
     requires size { length rows.old ≡ place.width }
-    requires few { place.width ≤ 128 }
+    requires few { place.width ≤ 256 }
     requires within { place.offset + place.width ≤ length closure.now.rows.items }
     requires small { length closure.now.rows.items ≤ 1024 }
     ensures size { length rows.new ≡ length rows.old }
     ensures bits { (a b : ℕ) → IsBit rows.new a b ↔ (IsBit rows.old a b ⊎ ((a < place.width) × (b < place.width) × Has closure.now.rows.items (place.offset + a) (place.offset + b))) }
     ensures same { IsFalse result → rows.new ≡ rows.old }
-    ensures lighter { room rows.new ≤ room rows.old }
-    ensures less { IsTrue result → room rows.new < room rows.old }
+    ensures lighter { room_of_rows rows.new ≤ room_of_rows rows.old }
+    ensures less { IsTrue result → room_of_rows rows.new < room_of_rows rows.old }
 {
     let mut grew = false;
     for a in 0..place.width {
-        let word = attributes_of(&closure.rows[place.offset + a], place);
-        if put(rows, a, word) {
+        let set = attributes_of(&closure.rows[place.offset + a], place);
+        if put(rows, a, set) {
             grew = true;
         }
     }
@@ -100,7 +98,7 @@ fn project_at(place: Place, closure: &Closure, rows: &mut [u128]) -> bool
 }
 
 /// Puts the edges between the vertices of a place into the rows of its symbol, among those of all symbols.
-fn project_place(place: Place, closure: &Closure, ids: &mut [List<u128>]) -> bool
+fn project_place(place: Place, closure: &Closure, ids: &mut [List<Bits>]) -> bool
     requires rows { HasRow ids.old place }
     requires within { place.offset + place.width ≤ length closure.now.rows.items }
     requires small { length closure.now.rows.items ≤ 1024 }
@@ -117,7 +115,7 @@ fn project_place(place: Place, closure: &Closure, ids: &mut [List<u128>]) -> boo
 
 /// Puts the edges between the vertices of a place into the rows of its symbol. Where any was new, all rules that have the symbol
 /// are to be visited.
-fn feed(place: Place, closure: &Closure, ids: &mut [List<u128>], due: &mut Due) -> bool
+fn feed(place: Place, closure: &Closure, ids: &mut [List<Bits>], due: &mut Due) -> bool
     requires rows { HasRow ids.old place }
     requires within { place.offset + place.width ≤ length closure.now.rows.items }
     requires small { length closure.now.rows.items ≤ 1024 }
@@ -139,7 +137,7 @@ fn feed(place: Place, closure: &Closure, ids: &mut [List<u128>], due: &mut Due) 
 
 /// Puts the edges between vertices of one place into the rows of the symbols, and tells whether any was new. All rules that have
 /// a symbol whose rows grew are to be visited.
-pub fn project(places: &[Place], closure: &Closure, ids: &mut [List<u128>], due: &mut Due) -> bool
+pub fn project(places: &[Place], closure: &Closure, ids: &mut [List<Bits>], due: &mut Due) -> bool
     requires rows { All (HasRow ids.old) places.now }
     requires within { AreWithin places.now (length closure.now.rows.items) }
     requires small { length closure.now.rows.items ≤ 1024 }

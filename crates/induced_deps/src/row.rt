@@ -3,8 +3,8 @@ ghost use Rattle.std.specs.Prelude.{◌≡◌, ◌+◌, ◌-◌, ◌/◌, ◌%�
 ghost use Rattle.induced_deps.specs.Rows.{IsIn, IsPart};
 ghost use Rattle.induced_deps.specs.Rounds.{room};
 
-use crate::words::{first_new, moved_down, moved_up};
-use flat_grammar::bits;
+use crate::shifts::{moved_down, moved_up};
+use flat_grammar::{Bits, words};
 
 /// How many words a row has.
 const WORDS: usize = 8;
@@ -28,7 +28,7 @@ impl Row {
         requires { k < 1024 }
         ensures { IsTrue result ↔ IsIn self.now.words k }
     {
-        bits::has(self.words[k / 128], k % 128)
+        words::has(self.words[k / 128], k % 128)
     }
 
     /// Puts the number into the set.
@@ -37,7 +37,7 @@ impl Row {
         ensures members { (j : ℕ) → IsIn self.new.words j ↔ ((j ≡ k) ⊎ IsIn self.old.words j) }
         ensures less { (IsIn self.old.words k → ⊥) → room self.new.words < room self.old.words }
     {
-        self.words[k / 128] = bits::with(self.words[k / 128], k % 128);
+        self.words[k / 128] = words::with(self.words[k / 128], k % 128);
     }
 
     /// Puts all numbers of the other set into this one.
@@ -46,7 +46,7 @@ impl Row {
         ensures lighter { room self.new.words ≤ room self.old.words }
     {
         for k in 0..WORDS {
-            self.words[k] = bits::union(self.words[k], other.words[k]);
+            self.words[k] = words::union(self.words[k], other.words[k]);
         }
     }
 
@@ -55,7 +55,7 @@ impl Row {
         ensures { IsTrue result ↔ IsPart self.now.words other.now.words }
     {
         for k in 0..WORDS {
-            if !bits::is_within(self.words[k], other.words[k]) {
+            if !words::is_within(self.words[k], other.words[k]) {
                 return false;
             }
         }
@@ -68,7 +68,7 @@ impl Row {
     {
         for k in 0..WORDS {
             let i = WORDS - 1 - k;
-            if let Some(bit) = first_new(self.words[i], other.words[i]) {
+            if let Some(bit) = words::first(words::without(self.words[i], other.words[i])) {
                 return Some(128 * i + bit);
             }
         }
@@ -87,12 +87,12 @@ impl Row {
         ensures { (j : ℕ) → IsIn self.new.words j ↔ (IsIn self.old.words j ⊎ ((j / 128 ≡ i) × (i < 8) × IsBitSet word (j % 128))) }
     {
         if i < WORDS {
-            self.words[i] = bits::union(self.words[i], word);
+            self.words[i] = words::union(self.words[i], word);
         }
     }
 
     /// The set of the numbers of a word, each so much greater. Those from 1,024 on are left out.
-    pub fn from_word(word: u128, by: usize) -> Row
+    fn from_word(word: u128, by: usize) -> Row
         ensures { (j : ℕ) → IsIn result.words j ↔ ((j < 1024) × (by ≤ j) × IsBitSet word (j - by)) }
     {
         let mut row = Row::new();
@@ -102,11 +102,32 @@ impl Row {
     }
 
     /// The numbers from this one on, so much smaller, as far as a word goes.
-    pub fn window(&self, from: usize) -> u128
+    fn window(&self, from: usize) -> u128
         ensures { (b : ℕ) → IsBitSet result b ↔ ((b < 128) × IsIn self.now.words (from + b)) }
     {
         let low = moved_down(self.word(from / 128), from % 128);
         let high = moved_up(self.word(from / 128 + 1), 128 - from % 128);
-        bits::union(low, high)
+        words::union(low, high)
+    }
+
+    /// The set of the attributes' numbers, each so much greater. Those from 1,024 on are left out.
+    pub fn from_bits(bits: Bits, by: usize) -> Row
+        requires { by ≤ 1024 }
+        ensures { (j : ℕ) → IsIn result.words j ↔ ((j < 1024) × (by ≤ j) × IsBitSet bits (j - by)) }
+    {
+        let mut row = Row::from_word(bits.low, by);
+        row.join(&Row::from_word(bits.high, by + 128));
+        row
+    }
+
+    /// The numbers from this one on, so much smaller, below 256.
+    pub fn bits_from(&self, from: usize) -> Bits
+        requires { from ≤ 1024 }
+        ensures { (b : ℕ) → IsBitSet result b ↔ ((b < 256) × IsIn self.now.words (from + b)) }
+    {
+        Bits {
+            low: self.window(from),
+            high: self.window(from + 128),
+        }
     }
 }

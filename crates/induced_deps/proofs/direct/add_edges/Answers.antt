@@ -1,6 +1,7 @@
 use Rattle.std.proofs.Common.{◌∙◌, refl, length, subst, sym}
 use Rattle.induced_deps.specs.Vertices.{AreWithin}
-use Rattle.induced_deps.proofs.DirectLemmas.{contains_at, placed_within, no_dependencies, one_dependency_more}
+use Rattle.flat_grammar.proofs.Lists.{contains_at}
+use Rattle.induced_deps.proofs.DirectLemmas.{placed_within, no_dependencies, one_dependency_more}
 use Rattle.induced_deps.proofs.direct.add_edges.Goals as goal
 
 pub loop-u-init : goal.loop-u-init

@@ -1,5 +1,6 @@
 use Rattle.std.proofs.Common.{◌∙◌, refl}
-use Rattle.induced_deps.proofs.DirectLemmas.{contains_at, no_comps, one_comp_more}
+use Rattle.flat_grammar.proofs.Lists.{contains_at}
+use Rattle.induced_deps.proofs.DirectLemmas.{no_comps, one_comp_more}
 use Rattle.induced_deps.proofs.direct.join_comps.Goals as goal
 
 pub loop-comp-init : goal.loop-comp-init

@@ -3,7 +3,7 @@ use Rattle.std.proofs.lemmas.List.{take_all, length-set}
 use Rattle.std.specs.Prelude.{Contains, ◌<◌, length, slice_index_or, slice_set, true}
 use Rattle.std.proofs.Common.{◌∙◌, inl, inr}
 use Rattle.induced_deps.specs.Due.{IsDue}
-use Rattle.induced_deps.proofs.DirectLemmas.{contains_at, take_cases}
+use Rattle.flat_grammar.proofs.Lists.{contains_at, take_cases}
 use Rattle.induced_deps.proofs.DueLemmas.{due_here, due_still}
 use Rattle.induced_deps.proofs.due.mark.Goals as goal
 

@@ -1,14 +1,9 @@
 use Rattle.std.proofs.Common.{◌≡◌, ◌⊎◌, subst, sym}
 use Rattle.std.specs.Prelude.{slice_index_or, ◌↔◌}
 use Rattle.induced_deps.specs.declared.row.Row.{Row}
-use Rattle.induced_deps.specs.Rows.{IsIn, IsPart, no_row}
-use Rattle.induced_deps.proofs.ClosureLemmas.{gains_nothing, join_gains, row_read}
+use Rattle.induced_deps.specs.Rows.{IsIn, no_row}
+use Rattle.induced_deps.proofs.ClosureLemmas.{join_gains, row_read}
 use Rattle.induced_deps.proofs.closure.Closure.join.Goals as goal
-
-pub returns-then-is_within-clause-edges : goal.returns-then-is_within-clause-edges
-returns-then-is_within-clause-edges c = gains_nothing c.args.self.now.rows.items c.args.from c.args.set.now.words
-    (let same : slice_index_or c.args.self.now.rows.items c.args.from no_row ≡ c.index.result.now = row_read c.args.self.now.rows.items c.args.from c.index.result.now c.index.result.now c.requires c.index.ensures in
-    subst (λ (r : Row). IsPart c.args.set.now.words r.words) (sym same) (c.is_within.ensures.0 c.if-is_within.true))
 
 pub returns-clause-edges : goal.returns-clause-edges
 returns-clause-edges c =

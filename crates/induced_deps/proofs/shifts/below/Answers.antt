@@ -3,7 +3,7 @@ use Rattle.std.proofs.lemmas.Bool.{cases_lt}
 use Rattle.std.proofs.Common.{inl, inr}
 use Rattle.flat_grammar.proofs.BitsLemmas.{not-above}
 use Rattle.induced_deps.proofs.WordLemmas.{below_bits}
-use Rattle.induced_deps.proofs.words.below.Goals as goal
+use Rattle.induced_deps.proofs.shifts.below.Goals as goal
 
 pub returns-then-place-ge128 : goal.returns-then-place-ge128
 returns-then-place-ge128 c = λ k. (

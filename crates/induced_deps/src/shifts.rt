@@ -1,5 +1,7 @@
-//! Words of bits that are moved.
-ghost use Rattle.std.specs.Prelude.{◌≡◌, ◌+◌, ◌-◌, ◌<◌, ◌≤◌, ◌↔◌, ℕ, IsBitSet, MatchOption};
+//! Words of bits that are moved or cut off.
+ghost use Rattle.std.specs.Prelude.{◌≡◌, ◌+◌, ◌-◌, ◌<◌, ◌≤◌, ◌↔◌, ℕ, IsBitSet};
+
+use flat_grammar::Bits;
 
 /// The bits of a word, each so many places further up. Those that come to 128 or behind are left out.
 pub fn moved_up(word: u128, by: usize) -> u128
@@ -16,7 +18,7 @@ pub fn moved_down(word: u128, by: usize) -> u128
 }
 
 /// The bits of a word below this place.
-pub fn below(word: u128, place: usize) -> u128
+fn below(word: u128, place: usize) -> u128
     ensures { (k : ℕ) → IsBitSet result k ↔ ((k < place) × IsBitSet word k) }
 {
     if place >= 128 {
@@ -25,13 +27,12 @@ pub fn below(word: u128, place: usize) -> u128
     moved_down(moved_up(word, 128 - place), 128 - place)
 }
 
-/// The least bit of the one word that isn't in the other.
-pub fn first_new(word: u128, other: u128) -> Option<usize>
-    ensures { MatchOption result ((k : ℕ) → IsBitSet word k → IsBitSet other k) (λ k. (k < 128) × IsBitSet word k × (IsBitSet other k → ⊥)) }
+/// The attributes of the set below this number.
+pub fn first_bits(bits: Bits, count: usize) -> Bits
+    ensures { (k : ℕ) → IsBitSet result k ↔ ((k < count) × IsBitSet bits k) }
 {
-    let left = word & !other;
-    if left == 0 {
-        return None;
+    Bits {
+        low: below(bits.low, count),
+        high: below(bits.high, count.saturating_sub(128)),
     }
-    Some(left.trailing_zeros() as usize)
 }

@@ -1,5 +1,5 @@
 use Rattle.induced_deps.proofs.WordLemmas.{down_bits, no_bits_down}
-use Rattle.induced_deps.proofs.words.moved_down.Goals as goal
+use Rattle.induced_deps.proofs.shifts.moved_down.Goals as goal
 
 pub returns-then-by-lt128 : goal.returns-then-by-lt128
 returns-then-by-lt128 c = λ k. down_bits c.args.word c.args.by k

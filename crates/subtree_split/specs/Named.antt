@@ -11,5 +11,5 @@ pub record IsNonterminalNamed (symbols : List FlatSymbol) (rules : List FlatRule
   pub symbol : FlatSymbol
   pub is_symbol : slice_get symbols s.0 ≡ Some symbol
   pub is_nonterminal : symbol.terminal ≡ None
-  pub is_no_cell : is_cell symbols rules shapes s ≡ false
+  pub is_no_cell : is_cell rules shapes s ≡ false
   pub is_named : slice_get texts symbol.name.0 ≡ Some name

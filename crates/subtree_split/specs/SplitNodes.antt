@@ -24,7 +24,7 @@ most_split_nodes = 63
 module _ (symbols : List FlatSymbol) (rules : List FlatRule) (shapes : List Shape) (names : List SymId) where
   -- A test that the symbol is named and no cell: a cell's node stands for no written node.
   abbrev pub is_split_symbol : SymId → Bool
-  is_split_symbol s = list_any (is_same_symbol s) names && not (is_cell symbols rules shapes s)
+  is_split_symbol s = list_any (is_same_symbol s) names && not (is_cell rules shapes s)
 
   module _ {V W : Type 0} (min : ℕ) (written : Tree V) (flat : Tree W) (node_of : List ℕ) where
     -- A test that the flat node stands for a written node of a named symbol whose subtree has so many written nodes at least.

@@ -9,6 +9,3 @@ mod symbols;
 
 pub use find::{UnknownSplit, find_split};
 pub use nodes::split;
-
-#[cfg(test)]
-mod tests;

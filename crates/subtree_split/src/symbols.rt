@@ -1,29 +1,17 @@
 //! Which symbols are named, and which are cells.
 ghost use Rattle.std.specs.Prelude.{◌≡◌, ℕ, Bool, Some, IfOk, slice_get};
 ghost use Rattle.std.specs.List.{list_any};
-ghost use Rattle.flat_grammar.specs.WellFormed.{cell_of as cell_symbol, is_same_symbol};
+ghost use Rattle.flat_grammar.specs.WellFormed.{is_same_symbol};
 ghost use Rattle.flat_grammar.specs.FlatTrees.{is_cell as is_cell_symbol};
 ghost use Rattle.subtree_split.specs.SplitNodes.{is_split_symbol};
 
-use flat_grammar::{Flat, Shape};
+use flat_grammar::{Flat, cell_of};
 use lido_base::SymId;
 use std::alloc::{AllocError, Global};
 
-/// The first symbol on the right side of the shape's rule: a list's cell.
-fn cell_of(flat: &Flat, shape: &Shape) -> SymId
-    ensures { result ≡ cell_symbol flat.now.symbols flat.now.rules shape.now }
-{
-    flat.rules
-        .as_slice()
-        .get(shape.rule.0 as usize)
-        .and_then(|rule| rule.right.as_slice().get(0))
-        .copied()
-        .unwrap_or(SymId(0))
-}
-
 /// Whether the symbol is the cell of a list.
 pub fn is_cell(flat: &Flat, symbol: SymId) -> bool
-    ensures { result ≡ is_cell_symbol flat.now.symbols flat.now.rules flat.now.shapes symbol }
+    ensures { result ≡ is_cell_symbol flat.now.rules flat.now.shapes symbol }
 {
     flat.shapes
         .as_slice()

@@ -49,8 +49,8 @@ module _ (symbols : List FlatSymbol) (rules : List FlatRule) (shapes : List Shap
         (d, f, others p (λ same. omega arith) (omega arith) ∙ items, g.nodes p w of, lt, cell_grows symbols rules shapes W F node_of each w G more g cell w d f y k, chain_more e x behind inside new items_c d (Child f ∷ []) ys rest)
 
     -- the end cell behind the last one
-    pub chain_end : tail < length F → AreCells symbols rules shapes W G more cell w c [] → (p : ℕ) (before : List (Item Value)) (xs : List ℕ) → Chain p before xs
-        → (d : ℕ) × (items_of G p ≡ before ++ Child d ∷ []) × AreCells symbols rules shapes W G more cell w d xs
+    pub chain_end : tail < length F → AreCells rules shapes G more cell w c [] → (p : ℕ) (before : List (Item Value)) (xs : List ℕ) → Chain p before xs
+        → (d : ℕ) × (items_of G p ≡ before ++ Child d ∷ []) × AreCells rules shapes G more cell w d xs
     chain_end inside new p before [] (same, items, of) = (c, at_tail p before same items, new)
     chain_end inside new p before (y ∷ ys) (d, f, items, of, lt, k, rest) = let low = chain_below d (Child f ∷ []) ys rest in
         let on = chain_end inside new d (Child f ∷ []) ys rest in

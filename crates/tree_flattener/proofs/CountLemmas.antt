@@ -81,6 +81,6 @@ pub map_next : (g : FlatRule → ℕ) (rules : List FlatRule) (k : ℕ) (r : Fla
 map_next g rules k r at old new n was is e = e ∙ ap (λ xs. xs ++ n ∷ []) was ∙ ap (λ z. map g (take k rules) ++ z ∷ []) is ∙ sym (map_push g (take k rules) r) ∙ ap (map g) (sym (take_next rules k r at)) ∙ ap (λ i. map g (take i rules)) (sym (add-one k))
 
 -- what the limits refuse, the written tree is refused for
-pub refused_for : (symbols : List FlatSymbol) (rules : List FlatRule) (shapes : List Shape) (W G : Table) (node_of : List ℕ) → IsFlatTree symbols rules shapes W G node_of → (e : TreeFault) → (e ≡ fault.Memory) ⊎ HasTooMany symbols rules G e → IsRefused symbols rules shapes W e
+pub refused_for : (symbols : List FlatSymbol) (rules : List FlatRule) (shapes : List Shape) (W G : Table) (node_of : List ℕ) → IsFlatTree rules shapes W G node_of → (e : TreeFault) → (e ≡ fault.Memory) ⊎ HasTooMany symbols rules G e → IsRefused symbols rules shapes W e
 refused_for symbols rules shapes W G node_of flat e (inl memory) = inl memory
 refused_for symbols rules shapes W G node_of flat e (inr many) = inr (G, node_of, flat, many)

@@ -13,7 +13,7 @@ use Rattle.flat_grammar.specs.declared.flat.FlatSymbol.{FlatSymbol}
 use Rattle.flat_grammar.specs.declared.flat.FlatRule.{FlatRule}
 use Rattle.flat_grammar.specs.declared.flat.Shape.{Shape}
 use Rattle.flat_grammar.specs.WellFormed.{cell_of}
-use Rattle.flat_grammar.specs.FlatTrees.{StandsFor, IsFlatTree}
+use Rattle.flat_grammar.specs.FlatTrees.{IsNodeOf, IsFlatTree}
 use Rattle.tree_store.proofs.GrowthLemmas.{get_before, get_last}
 use Rattle.tree_store.proofs.OpenLemmas.{open_upwards}
 use Rattle.tree_flattener.specs.Drafts.{Table, IsPlaced, IsOnPath, Suits, IsUpToAs, IsWholeAs, IsUpTo, IsWhole, IsNumbered, IsDraft, IsAttached, IsClosed}
@@ -54,14 +54,14 @@ module _ (symbols : List FlatSymbol) (rules : List FlatRule) (shapes : List Shap
       inside = λ k w e. inside k w e (cases_lt k (length F));
     }
       where
-        known : (w k : ℕ) → slice_get (flat_of ++ f ∷ []) w ≡ Some k → (w < length flat_of) ⊎ (length flat_of ≤ w) → StandsFor symbols rules shapes W G more k w × (rule_at G k ≡ rule_at W w)
+        known : (w k : ℕ) → slice_get (flat_of ++ f ∷ []) w ≡ Some k → (w < length flat_of) ⊎ (length flat_of ≤ w) → IsNodeOf rules shapes G more k w × (rule_at G k ≡ rule_at W w)
         known w k e (inl h) = let old = get_earlier flat_of f w k e h in let was = d.numbered.known w k old in
             (stands_grows symbols rules shapes W F node_of d.numbered.each_node m G more a.grows k w was.0, a.grows.rules k (flat_inside w k old) ∙ was.1)
         known w k e (inr h) = let new = get_new flat_of f w k e h in
             let here : w ≡ n = omega (arith, new.0, d.count, is_next) in
-            subst (λ z. StandsFor symbols rules shapes W G more z w × (rule_at G z ≡ rule_at W w)) (sym new.1) (subst (λ z. StandsFor symbols rules shapes W G more f z × (rule_at G f ≡ rule_at W z)) (sym here) (a.new, a.rule))
+            subst (λ z. IsNodeOf rules shapes G more z w × (rule_at G z ≡ rule_at W w)) (sym new.1) (subst (λ z. IsNodeOf rules shapes G more f z × (rule_at G f ≡ rule_at W z)) (sym here) (a.new, a.rule))
 
-        only : (k w : ℕ) → StandsFor symbols rules shapes W G more k w → (k < length F) ⊎ (length F ≤ k) → slice_get (flat_of ++ f ∷ []) w ≡ Some k
+        only : (k w : ℕ) → IsNodeOf rules shapes G more k w → (k < length F) ⊎ (length F ≤ k) → slice_get (flat_of ++ f ∷ []) w ≡ Some k
         only k w s (inl h) = let old = d.numbered.only k w (stands_before symbols rules shapes W F node_of d.numbered.each_node m G more a.grows k w h s (of_some k h)) in get_before flat_of f w (slice_get_within flat_of w k old) ∙ old
         only k w s (inr h) = let new = a.only k w h s in get_last flat_of f w (omega (arith, new.1, d.count, is_next)) ∙ ap Some (sym new.0)
 
@@ -81,11 +81,11 @@ module _ (symbols : List FlatSymbol) (rules : List FlatRule) (shapes : List Shap
     -- what is said of earlier written nodes but m is still so
     kept_up_to : (w tail done : ℕ) → w < v → (w ≡ m → ⊥) → IsUpTo symbols rules shapes W F node_of flat_of w done tail → IsUpTo symbols rules shapes W G more (flat_of ++ f ∷ []) w done tail
     kept_up_to w t j low other h = λ shape g among is at. let old = get_earlier flat_of f w g at (omega (arith, d.count)) in
-        up_to_grows symbols rules shapes W F node_of d.numbered.each_node m G more a.grows (cell_of symbols rules shape) w other shape.list g j t (of_own w g old) (h shape g among is old)
+        up_to_grows symbols rules shapes W F node_of d.numbered.each_node m G more a.grows (cell_of rules shape) w other shape.list g j t (of_own w g old) (h shape g among is old)
 
     kept_whole : (w : ℕ) → w < v → (w ≡ m → ⊥) → IsWhole symbols rules shapes W F node_of flat_of w → IsWhole symbols rules shapes W G more (flat_of ++ f ∷ []) w
     kept_whole w low other h = λ shape g among is at. let old = get_earlier flat_of f w g at (omega (arith, d.count)) in
-        whole_grows symbols rules shapes W F node_of d.numbered.each_node m G more a.grows (cell_of symbols rules shape) w other shape.list g (of_own w g old) (h shape g among is old)
+        whole_grows symbols rules shapes W F node_of d.numbered.each_node m G more a.grows (cell_of rules shape) w other shape.list g (of_own w g old) (h shape g among is old)
 
     low_m : m < v
     low_m = let h = parent_before W suits.tree n m up in omega arith
@@ -100,7 +100,7 @@ module _ (symbols : List FlatSymbol) (rules : List FlatRule) (shapes : List Shap
 
     attached_top : IsUpTo symbols rules shapes W G more (flat_of ++ f ∷ []) n 0 f
     attached_top = λ shape g among is at. let new = get_new flat_of f n g at (omega (arith, d.count)) in
-        subst (λ z. IsUpToAs symbols rules shapes W G more shape.list (cell_of symbols rules shape) n z 0 f) (sym new.1) (go shape.list (cell_of symbols rules shape))
+        subst (λ z. IsUpToAs symbols rules shapes W G more shape.list (cell_of rules shape) n z 0 f) (sym new.1) (go shape.list (cell_of rules shape))
       where
         go : (list : Bool) (cell : SymId) → IsUpToAs symbols rules shapes W G more list cell n f 0 f
         go false cell = (refl, rw a.empty tt)
@@ -162,7 +162,7 @@ module _ (symbols : List FlatSymbol) (rules : List FlatRule) (shapes : List Shap
       inside = λ k w e. inside k w e (cases_lt k (length F));
     }
       where
-        only : (k w : ℕ) → StandsFor symbols rules shapes W G more k w → (k < length F) ⊎ (length F ≤ k) → slice_get flat_of w ≡ Some k
+        only : (k w : ℕ) → IsNodeOf rules shapes G more k w → (k < length F) ⊎ (length F ≤ k) → slice_get flat_of w ≡ Some k
         only k w s (inl h) = d.numbered.only k w (stands_before symbols rules shapes W F node_of d.numbered.each_node m G more a.grows k w h s (of_some k h))
         only k w s (inr h) = absurd (a.only k w h s)
 
@@ -173,7 +173,7 @@ module _ (symbols : List FlatSymbol) (rules : List FlatRule) (shapes : List Shap
     -- the other written nodes are as they were
     pub others_whole : (w : ℕ) → w < v → (IsOnPath W m w → ⊥) → IsWhole symbols rules shapes W G more flat_of w
     others_whole w low off = λ shape g among is at.
-        whole_grows symbols rules shapes W F node_of d.numbered.each_node m G more a.grows (cell_of symbols rules shape) w (λ same. off (inl same)) shape.list g (of_own w g at) (d.closed w low off shape g among is at)
+        whole_grows symbols rules shapes W F node_of d.numbered.each_node m G more a.grows (cell_of rules shape) w (λ same. off (inl same)) shape.list g (of_own w g at) (d.closed w low off shape g among is at)
 
     -- the draft with the spot at the parent
     pub closed_draft : (p f t : ℕ) → parent_of W m ≡ Some p → slice_get flat_of m ≡ Some f → parent_of G f ≡ Some t → IsDraft symbols rules shapes W G more flat_of v p t (place_of W m)
@@ -198,7 +198,7 @@ module _ (symbols : List FlatSymbol) (rules : List FlatRule) (shapes : List Shap
         edges : (q w g s : ℕ) → IsOnPath W m q → parent_of W q ≡ Some w → slice_get flat_of q ≡ Some g → parent_of G g ≡ Some s → IsUpTo symbols rules shapes W G more flat_of w (place_of W q) s
         edges q w g s on e found link = λ shape h among is found_w.
             let low = on_path_before W suits.tree m q on in let before = parent_before W suits.tree q w e in
-            up_to_grows symbols rules shapes W F node_of d.numbered.each_node m G more a.grows (cell_of symbols rules shape) w (λ same. omega arith) shape.list h (place_of W q) s (of_own w h found_w)
+            up_to_grows symbols rules shapes W F node_of d.numbered.each_node m G more a.grows (cell_of rules shape) w (λ same. omega arith) shape.list h (place_of W q) s (of_own w h found_w)
             (d.edges q w g s on e found (sym (a.grows.parents g (flat_inside q g found)) ∙ link) shape h among is found_w)
 
         closed : (w : ℕ) → w < v → (IsOnPath W p w → ⊥) → ((nat_eq w m ≡ true) × (w ≡ m)) ⊎ ((nat_eq w m ≡ false) × (w ≡ m → ⊥)) → IsWhole symbols rules shapes W G more flat_of w
@@ -214,7 +214,7 @@ module _ (symbols : List FlatSymbol) (rules : List FlatRule) (shapes : List Shap
                 go (inr far) = inr far
 
     -- once all is closed, it is the flat tree
-    pub is_flat_tree : IsPlaced W G more → m ≡ 0 → v ≡ length W → IsFlatTree symbols rules shapes W G more
+    pub is_flat_tree : IsPlaced W G more → m ≡ 0 → v ≡ length W → IsFlatTree rules shapes W G more
     is_flat_tree placed at_root all = record {
       tree = a.tree;
       each_node = a.each_node;
@@ -224,8 +224,8 @@ module _ (symbols : List FlatSymbol) (rules : List FlatRule) (shapes : List Shap
       same_rules = λ k w s. (closed_numbered.known w k (closed_numbered.only k w s)).1;
       same_lines = placed.lines;
       same_columns = placed.columns;
-      plain_nodes = λ k w shape among s is plain. subst (λ b. IsWholeAs symbols rules shapes W G more b (cell_of symbols rules shape) w k) plain (whole k w shape among s is);
-      list_nodes = λ k w shape among s is list. subst (λ b. IsWholeAs symbols rules shapes W G more b (cell_of symbols rules shape) w k) list (whole k w shape among s is);
+      plain_nodes = λ k w shape among s is plain. subst (λ b. IsWholeAs symbols rules shapes W G more b (cell_of rules shape) w k) plain (whole k w shape among s is);
+      list_nodes = λ k w shape among s is list. subst (λ b. IsWholeAs symbols rules shapes W G more b (cell_of rules shape) w k) list (whole k w shape among s is);
     }
       where
         order : (k l w x : ℕ) → slice_get flat_of w ≡ Some k → slice_get flat_of x ≡ Some l → k < l → (w < x) ⊎ (x ≤ w) → w < x
@@ -244,6 +244,6 @@ module _ (symbols : List FlatSymbol) (rules : List FlatRule) (shapes : List Shap
         each w h (inl same) = subst (λ z. IsWhole symbols rules shapes W G more flat_of z) (sym same.1) a.whole
         each w h (inr other) = others_whole w h (alone w other.1)
 
-        whole : (k w : ℕ) (shape : Shape) → Contains shapes shape → StandsFor symbols rules shapes W G more k w → rule_at G k ≡ Some shape.rule.0 → IsWholeAs symbols rules shapes W G more shape.list (cell_of symbols rules shape) w k
+        whole : (k w : ℕ) (shape : Shape) → Contains shapes shape → IsNodeOf rules shapes G more k w → rule_at G k ≡ Some shape.rule.0 → IsWholeAs symbols rules shapes W G more shape.list (cell_of rules shape) w k
         whole k w shape among s is = let at = closed_numbered.only k w s in
             each w (let h = slice_get_within flat_of w k at in omega (arith, d.count)) (eqb_tells w m) shape k among (sym (closed_numbered.known w k at).1 ∙ is) at

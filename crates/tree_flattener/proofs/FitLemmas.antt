@@ -32,14 +32,14 @@ leaf_child u d e = cc
 
 module _ (texts : List (List ℕ)) where
   module _ (symbols : List FlatSymbol) (rules : List FlatRule) (shapes : List Shape) (root : SymId) (well : IsWellFormed symbols rules shapes root) (W : Table) (fits : IsFitting symbols rules shapes root (plain_tree texts W)) where
-    no_terminal : (s : SymId) (ty : ValueType) → IsTrue (is_nonterminal symbols s) → IsTerminal symbols rules shapes root (plain_tree texts W) s ty → ⊥
+    no_terminal : (s : SymId) (ty : ValueType) → IsTrue (is_nonterminal symbols s) → IsTerminal symbols s ty → ⊥
     no_terminal s ty non (x, at, is) = differ (subst (λ o. IsTrue (is_nonterminal_symbol o)) at non)
       where
         differ : IsTrue (not (is_some x.terminal)) → ⊥
         differ h = false_true (sym (ap (λ o. not (is_some o)) is) ∙ h)
 
-    child_of : (s : SymId) → IsTrue (is_nonterminal symbols s) → (x : Item Value) (y : Item Plain) → plain_item texts x ≡ y → IsItem symbols rules shapes root (plain_tree texts W) s y → (c : ℕ) × (x ≡ Child c) × HasSymbol symbols rules shapes root (plain_tree texts W) c s
-    child_of s non (Child c) y e (node {c = d} h) = (c, refl, subst (λ z. HasSymbol symbols rules shapes root (plain_tree texts W) z s) (same_child c d e) h)
+    child_of : (s : SymId) → IsTrue (is_nonterminal symbols s) → (x : Item Value) (y : Item Plain) → plain_item texts x ≡ y → IsItem symbols rules (plain_tree texts W) s y → (c : ℕ) × (x ≡ Child c) × HasSymbol rules (plain_tree texts W) c s
+    child_of s non (Child c) y e (node {c = d} h) = (c, refl, subst (λ z. HasSymbol rules (plain_tree texts W) z s) (same_child c d e) h)
     child_of s non (Leaf v) y e (node {c = d} h) = absurd (leaf_child (plain texts v) d e)
     child_of s non x y e (int h low high) = absurd (no_terminal s _ non h)
     child_of s non x y e (string h) = absurd (no_terminal s _ non h)
@@ -62,17 +62,17 @@ module _ (texts : List (List ℕ)) where
         shaped n h = let (shape, has) = fits.shaped n (omega (arith, plain_length texts W)) in (shape, has.0, sym (plain_rule texts W n) ∙ has.1)
 
         elements : (n k : ℕ) (x : Item Value) (shape : Shape) → Contains shapes shape → rule_at W n ≡ Some shape.rule.0 → shape.list ≡ true → slice_get (items_of W n) k ≡ Some x
-            → (c : ℕ) × (x ≡ Child c) × ((r : FlatRule) → HasRule rules W c r → (i : ℕ) × (q : FlatRule) × (slice_get rules i ≡ Some q) × (q.left ≡ cell_of symbols rules shape) × (q.right ≡ r.left ∷ cell_of symbols rules shape ∷ []))
+            → (c : ℕ) × (x ≡ Child c) × ((r : FlatRule) → HasRule rules W c r → (i : ℕ) × (q : FlatRule) × (slice_get rules i ≡ Some q) × (q.left ≡ cell_of rules shape) × (q.right ≡ r.left ∷ cell_of rules shape ∷ []))
         elements n k x shape among is list at =
             let there : slice_get (items_of (plain_tree texts W) n) k ≡ Some (plain_item texts x) = ap (λ xs. slice_get xs k) (plain_items texts W n) ∙ slice_get-map (plain_item texts) (items_of W n) k ∙ ap (option_map (plain_item texts)) at in
             let (s, m, item) = fits.lists n shape (among, plain_rule texts W n ∙ is) list k (plain_item texts x) (slice_get_within (items_of (plain_tree texts W) n) k (plain_item texts x) there) in
             let (c, same, has) = child_of s (element_nonterminal symbols rules shapes root well shape among list s m) x (get_or (items_of (plain_tree texts W) n) k (plain_item texts x)) (sym (get_or_from_slice_get (items_of (plain_tree texts W) n) k (plain_item texts x) (plain_item texts x) there)) item in
             (c, same, λ r known. rule_for s m c has r known)
           where
-            rule_for : (s : SymId) → Contains shape.right s → (c : ℕ) → HasSymbol symbols rules shapes root (plain_tree texts W) c s → (r : FlatRule) → HasRule rules W c r
-                → (i : ℕ) × (q : FlatRule) × (slice_get rules i ≡ Some q) × (q.left ≡ cell_of symbols rules shape) × (q.right ≡ r.left ∷ cell_of symbols rules shape ∷ [])
+            rule_for : (s : SymId) → Contains shape.right s → (c : ℕ) → HasSymbol rules (plain_tree texts W) c s → (r : FlatRule) → HasRule rules W c r
+                → (i : ℕ) × (q : FlatRule) × (slice_get rules i ≡ Some q) × (q.left ≡ cell_of rules shape) × (q.right ≡ r.left ∷ cell_of rules shape ∷ [])
             rule_for s m c (r0, (i0, e0, got0), left) r (i, e, got) =
                 let number : i0 ≡ i = some_same (sym e0 ∙ plain_rule texts W c ∙ e) in
                 let same : r0 ≡ r = some_same (sym got0 ∙ ap (slice_get rules) number ∙ got) in
-                subst (λ z. (i : ℕ) × (q : FlatRule) × (slice_get rules i ≡ Some q) × (q.left ≡ cell_of symbols rules shape) × (q.right ≡ z ∷ cell_of symbols rules shape ∷ [])) (sym left ∙ ap (λ (z : FlatRule). z.left) same)
+                subst (λ z. (i : ℕ) × (q : FlatRule) × (slice_get rules i ≡ Some q) × (q.left ≡ cell_of rules shape) × (q.right ≡ z ∷ cell_of rules shape ∷ [])) (sym left ∙ ap (λ (z : FlatRule). z.left) same)
                 (element_has_rule symbols rules shapes root well shape among list s m)

@@ -9,7 +9,7 @@ use Rattle.flat_grammar.specs.declared.flat.FlatSymbol.{FlatSymbol}
 use Rattle.flat_grammar.specs.declared.flat.FlatRule.{FlatRule}
 use Rattle.flat_grammar.specs.declared.flat.Shape.{Shape}
 use Rattle.flat_grammar.specs.Rules.{HasRule}
-use Rattle.flat_grammar.specs.FlatTrees.{StandsFor, AreItems, AreCells}
+use Rattle.flat_grammar.specs.FlatTrees.{IsNodeOf, AreItems, AreCells}
 use Rattle.tree_store.specs.Growth.{IsOpen}
 use Rattle.tree_store.proofs.GrowthLemmas.{get_before, get_last, length-with_item, parent_of-with_item, items_of-with_item_other, length-grown, parent_of-grown, parent_of-added, items_of-parent, items_of-other, IsTree-with_node, IsTree-leaf, open_inside}
 use Rattle.tree_store.proofs.OpenLemmas.{open_added, open_parent, open_kept}
@@ -131,14 +131,14 @@ module _ (symbols : List FlatSymbol) (rules : List FlatRule) (shapes : List Shap
   inside : (n w : ℕ) → slice_get node_of n ≡ Some w → n < length F
   inside n w e = let h = slice_get_within node_of n w e in omega (arith, each)
 
-  pub stands_grows : (n w : ℕ) → StandsFor symbols rules shapes W F node_of n w → StandsFor symbols rules shapes W G more n w
+  pub stands_grows : (n w : ℕ) → IsNodeOf rules shapes F node_of n w → IsNodeOf rules shapes G more n w
   stands_grows n w (plain, of) = (λ cell. plain (cell.0, (cell.1.0, sym (g.rules n (inside n w of)) ∙ cell.1.1, cell.1.2), cell.2), g.nodes n w of)
 
   -- and nothing else stands for something among the earlier nodes
-  pub stands_before : (n w : ℕ) → n < length F → StandsFor symbols rules shapes W G more n w → (of : (u : ℕ) × (slice_get node_of n ≡ Some u)) → StandsFor symbols rules shapes W F node_of n w
+  pub stands_before : (n w : ℕ) → n < length F → IsNodeOf rules shapes G more n w → (of : (u : ℕ) × (slice_get node_of n ≡ Some u)) → IsNodeOf rules shapes F node_of n w
   stands_before n w h (plain, at) (u, of) = (λ cell. plain (cell.0, (cell.1.0, g.rules n h ∙ cell.1.1, cell.1.2), cell.2), of ∙ sym (g.nodes n u of) ∙ at)
 
-  pub items_grow : (is ws : List (Item Value)) → AreItems symbols rules shapes W F node_of is ws → AreItems symbols rules shapes W G more is ws
+  pub items_grow : (is ws : List (Item Value)) → AreItems rules shapes F node_of is ws → AreItems rules shapes G more is ws
   items_grow [] [] h = tt
   items_grow (Child n ∷ is) (Child w ∷ ws) (s, h) = (stands_grows n w s, items_grow is ws h)
   items_grow (Leaf v ∷ is) (Leaf u ∷ ws) (e, h) = (e, items_grow is ws h)
@@ -168,14 +168,14 @@ module _ (symbols : List FlatSymbol) (rules : List FlatRule) (shapes : List Shap
     chain_grows p before [] tail (same, items, of) = (same, g.items p w of other ∙ items, g.nodes p w of)
     chain_grows p before (x ∷ xs) tail (c, e, items, of, lt, k, rest) = (c, e, g.items p w of other ∙ items, g.nodes p w of, lt, cell_grows cell w c e x k, chain_grows c (Child e ∷ []) xs tail rest)
 
-    pub cells_grow : (c : ℕ) (xs : List ℕ) → AreCells symbols rules shapes W F node_of cell w c xs → AreCells symbols rules shapes W G more cell w c xs
+    pub cells_grow : (c : ℕ) (xs : List ℕ) → AreCells rules shapes F node_of cell w c xs → AreCells rules shapes G more cell w c xs
     cells_grow c [] (r, has, left, right, items, of) = (r, rule_grows c w r of has, left, right, g.items c w of other ∙ items, g.nodes c w of)
     cells_grow c (x ∷ xs) (r, element, e, next, has, has_e, left, right, items, of, stands, rest) = (r, element, e, next, rule_grows c w r of has, rule_grows e x element stands.1 has_e, left, right, g.items c w of other ∙ items, g.nodes c w of, stands_grows e x stands, cells_grow next xs rest)
 
     pub up_to_grows : (list : Bool) (f done tail : ℕ) → slice_get node_of f ≡ Some w → IsUpToAs symbols rules shapes W F node_of list cell w f done tail → IsUpToAs symbols rules shapes W G more list cell w f done tail
-    up_to_grows false f done tail of (same, h) = (same, subst (λ is. AreItems symbols rules shapes W G more is (take done (items_of W w))) (sym (g.items f w of other)) (items_grow (items_of F f) (take done (items_of W w)) h))
+    up_to_grows false f done tail of (same, h) = (same, subst (λ is. AreItems rules shapes G more is (take done (items_of W w))) (sym (g.items f w of other)) (items_grow (items_of F f) (take done (items_of W w)) h))
     up_to_grows true f done tail of h = chain_grows f [] (filter_map child_number (take done (items_of W w))) tail h
 
     pub whole_grows : (list : Bool) (f : ℕ) → slice_get node_of f ≡ Some w → IsWholeAs symbols rules shapes W F node_of list cell w f → IsWholeAs symbols rules shapes W G more list cell w f
-    whole_grows false f of h = subst (λ is. AreItems symbols rules shapes W G more is (items_of W w)) (sym (g.items f w of other)) (items_grow (items_of F f) (items_of W w) h)
+    whole_grows false f of h = subst (λ is. AreItems rules shapes G more is (items_of W w)) (sym (g.items f w of other)) (items_grow (items_of F f) (items_of W w) h)
     whole_grows true f of (c, items, h) = (c, g.items f w of other ∙ items, cells_grow c (children W w) h)

@@ -8,7 +8,7 @@ use Rattle.lido_base.specs.Tree.{Item, Child, Leaf, IsTree, parent_of, place_of,
 use Rattle.flat_grammar.specs.declared.flat.FlatSymbol.{FlatSymbol}
 use Rattle.flat_grammar.specs.declared.flat.FlatRule.{FlatRule}
 use Rattle.flat_grammar.specs.declared.flat.Shape.{Shape}
-use Rattle.flat_grammar.specs.FlatTrees.{AreItems, StandsFor}
+use Rattle.flat_grammar.specs.FlatTrees.{AreItems, IsNodeOf}
 use Rattle.tree_store.specs.Growth.{IsTerminal}
 use Rattle.tree_store.proofs.GrowthLemmas.{items_of-with_item}
 use Rattle.tree_flattener.proofs.GrowLemmas.{rule_at-with_item}
@@ -44,7 +44,7 @@ pub take_none : {X : Type 0} (xs : List X) → take 0 xs ≡ []
 take_none xs = refl
 
 module _ (symbols : List FlatSymbol) (rules : List FlatRule) (shapes : List Shape) (W F : Table) (node_of : List ℕ) where
-  pub items_append : (is ws js xs : List (Item Value)) → AreItems symbols rules shapes W F node_of is ws → AreItems symbols rules shapes W F node_of js xs → AreItems symbols rules shapes W F node_of (is ++ js) (ws ++ xs)
+  pub items_append : (is ws js xs : List (Item Value)) → AreItems rules shapes F node_of is ws → AreItems rules shapes F node_of js xs → AreItems rules shapes F node_of (is ++ js) (ws ++ xs)
   items_append [] [] js xs h i = i
   items_append (Child n ∷ is) (Child w ∷ ws) js xs (s, h) i = (s, items_append is ws js xs h i)
   items_append (Leaf v ∷ is) (Leaf u ∷ ws) js xs (e, h) i = (e, items_append is ws js xs h i)
@@ -54,7 +54,7 @@ module _ (symbols : List FlatSymbol) (rules : List FlatRule) (shapes : List Shap
   items_append (Child n ∷ is) (Leaf u ∷ ws) js xs h i = absurd h
   items_append (Leaf v ∷ is) (Child w ∷ ws) js xs h i = absurd h
 
-  pub items_length : (is ws : List (Item Value)) → AreItems symbols rules shapes W F node_of is ws → length is ≡ length ws
+  pub items_length : (is ws : List (Item Value)) → AreItems rules shapes F node_of is ws → length is ≡ length ws
   items_length [] [] h = refl
   items_length (Child n ∷ is) (Child w ∷ ws) (s, h) = ap suc (items_length is ws h)
   items_length (Leaf v ∷ is) (Leaf u ∷ ws) (e, h) = ap suc (items_length is ws h)
@@ -65,8 +65,8 @@ module _ (symbols : List FlatSymbol) (rules : List FlatRule) (shapes : List Shap
   items_length (Leaf v ∷ is) (Child w ∷ ws) h = absurd h
 
   -- the items stand for each other also where more is known to stand for something
-  pub items_along : (G : Table) (more : List ℕ) → ((n w : ℕ) → StandsFor symbols rules shapes W F node_of n w → StandsFor symbols rules shapes W G more n w)
-      → (is ws : List (Item Value)) → AreItems symbols rules shapes W F node_of is ws → AreItems symbols rules shapes W G more is ws
+  pub items_along : (G : Table) (more : List ℕ) → ((n w : ℕ) → IsNodeOf rules shapes F node_of n w → IsNodeOf rules shapes G more n w)
+      → (is ws : List (Item Value)) → AreItems rules shapes F node_of is ws → AreItems rules shapes G more is ws
   items_along G more f [] [] h = tt
   items_along G more f (Child n ∷ is) (Child w ∷ ws) (s, h) = (f n w s, items_along G more f is ws h)
   items_along G more f (Leaf v ∷ is) (Leaf u ∷ ws) (e, h) = (e, items_along G more f is ws h)
@@ -78,12 +78,12 @@ module _ (symbols : List FlatSymbol) (rules : List FlatRule) (shapes : List Shap
 
   -- one more terminal on both sides
   pub leaf_more : (p : ℕ) (u : Value) (G : Table) → G ≡ with_item F p (Leaf u) → p < length F → (xs : List (Item Value)) (k : ℕ) → slice_get xs k ≡ Some (Leaf u)
-      → AreItems symbols rules shapes W F node_of (items_of F p) (take k xs) → AreItems symbols rules shapes W G node_of (items_of G p) (take (k + 1) xs)
-  leaf_more p u G e inside xs k at h = subst (λ is. AreItems symbols rules shapes W G node_of is (take (k + 1) xs)) (sym (ap (λ g. items_of g p) e ∙ items_of-with_item F p (Leaf u) inside))
-      (subst (λ ws. AreItems symbols rules shapes W G node_of (items_of F p ++ Leaf u ∷ []) ws) (sym (ap (λ i. take i xs) (add-one k) ∙ take_next xs k (Leaf u) at))
+      → AreItems rules shapes F node_of (items_of F p) (take k xs) → AreItems rules shapes G node_of (items_of G p) (take (k + 1) xs)
+  leaf_more p u G e inside xs k at h = subst (λ is. AreItems rules shapes G node_of is (take (k + 1) xs)) (sym (ap (λ g. items_of g p) e ∙ items_of-with_item F p (Leaf u) inside))
+      (subst (λ ws. AreItems rules shapes G node_of (items_of F p ++ Leaf u ∷ []) ws) (sym (ap (λ i. take i xs) (add-one k) ∙ take_next xs k (Leaf u) at))
       (items_along G node_of stands (items_of F p ++ Leaf u ∷ []) (take k xs ++ Leaf u ∷ []) (items_append (items_of F p) (take k xs) (Leaf u ∷ []) (Leaf u ∷ []) h (refl, tt))))
     where
-      stands : (n w : ℕ) → StandsFor symbols rules shapes W F node_of n w → StandsFor symbols rules shapes W G node_of n w
+      stands : (n w : ℕ) → IsNodeOf rules shapes F node_of n w → IsNodeOf rules shapes G node_of n w
       stands n w (plain, of) = (λ cell. plain (cell.0, (cell.1.0, sym (ap (λ g. rule_at g n) e ∙ rule_at-with_item F p (Leaf u) n) ∙ cell.1.1, cell.1.2), cell.2), of)
 
   -- a node has one item more

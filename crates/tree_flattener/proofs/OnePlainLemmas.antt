@@ -14,7 +14,7 @@ use Rattle.flat_grammar.specs.declared.flat.Shape.{Shape}
 use Rattle.flat_grammar.specs.Rules.{HasRule}
 use Rattle.flat_grammar.specs.WellFormed.{cell_of}
 use Rattle.flat_grammar.specs.Fitting.{instances, text_cells}
-use Rattle.flat_grammar.specs.FlatTrees.{StandsFor, AreCells, AreItems, IsFlatTree}
+use Rattle.flat_grammar.specs.FlatTrees.{IsNodeOf, AreCells, AreItems, IsFlatTree}
 
 module _ (texts : List (List ℕ)) where
   module _ (symbols : List FlatSymbol) (rules : List FlatRule) (shapes : List Shape) (W F : Tree Value) (ns : List ℕ) where
@@ -24,16 +24,16 @@ module _ (texts : List (List ℕ)) where
     has_plain : (n : ℕ) (r : FlatRule) → HasRule rules (plain_tree texts F) n r → HasRule rules F n r
     has_plain n r (i, at, e) = (i, sym (plain_rule texts F n) ∙ at, e)
 
-    plain_stands : (n w : ℕ) → StandsFor symbols rules shapes W F ns n w
-        → StandsFor symbols rules shapes (plain_tree texts W) (plain_tree texts F) ns n w
+    plain_stands : (n w : ℕ) → IsNodeOf rules shapes F ns n w
+        → IsNodeOf rules shapes (plain_tree texts F) ns n w
     plain_stands n w (no_cell, of) = (λ p. no_cell (p.0, has_plain n p.0 p.1, p.2), of)
 
-    stands_plain : (n w : ℕ) → StandsFor symbols rules shapes (plain_tree texts W) (plain_tree texts F) ns n w
-        → StandsFor symbols rules shapes W F ns n w
+    stands_plain : (n w : ℕ) → IsNodeOf rules shapes (plain_tree texts F) ns n w
+        → IsNodeOf rules shapes F ns n w
     stands_plain n w (no_cell, of) = (λ p. no_cell (p.0, plain_has n p.0 p.1, p.2), of)
 
-    plain_are_items : (is ws : List (Item Value)) → AreItems symbols rules shapes W F ns is ws
-        → AreItems symbols rules shapes (plain_tree texts W) (plain_tree texts F) ns (map (plain_item texts) is) (map (plain_item texts) ws)
+    plain_are_items : (is ws : List (Item Value)) → AreItems rules shapes F ns is ws
+        → AreItems rules shapes (plain_tree texts F) ns (map (plain_item texts) is) (map (plain_item texts) ws)
     plain_are_items [] [] h = tt
     plain_are_items (Child n ∷ is) (Child w ∷ ws) h = (plain_stands n w h.0, plain_are_items is ws h.1)
     plain_are_items (Leaf v ∷ is) (Leaf u ∷ ws) h = (ap (plain texts) h.0, plain_are_items is ws h.1)
@@ -43,8 +43,8 @@ module _ (texts : List (List ℕ)) where
     plain_are_items (Child n ∷ is) (Leaf u ∷ ws) h = absurd h
     plain_are_items (Leaf v ∷ is) (Child w ∷ ws) h = absurd h
 
-    plain_cells : (cell : SymId) (w c : ℕ) (xs : List ℕ) → AreCells symbols rules shapes W F ns cell w c xs
-        → AreCells symbols rules shapes (plain_tree texts W) (plain_tree texts F) ns cell w c xs
+    plain_cells : (cell : SymId) (w c : ℕ) (xs : List ℕ) → AreCells rules shapes F ns cell w c xs
+        → AreCells rules shapes (plain_tree texts F) ns cell w c xs
     plain_cells cell w c [] (r, has, left, right, none, of) =
         (r, plain_has c r has, left, right, plain_items texts F c ∙ ap (map (plain_item texts)) none, of)
     plain_cells cell w c (x ∷ xs) (r, element, e, next, has, has_element, left, right, items, of, stands, rest) = (
@@ -63,7 +63,7 @@ module _ (texts : List (List ℕ)) where
       plain_cells cell w next xs rest,
     )
 
-    pub plain_flat_tree : IsFlatTree symbols rules shapes W F ns → IsFlatTree symbols rules shapes (plain_tree texts W) (plain_tree texts F) ns
+    pub plain_flat_tree : IsFlatTree rules shapes W F ns → IsFlatTree rules shapes (plain_tree texts W) (plain_tree texts F) ns
     plain_flat_tree f = record {
       tree = plain_is_tree texts F f.tree;
       each_node = f.each_node ∙ sym (plain_length texts F);
@@ -74,18 +74,18 @@ module _ (texts : List (List ℕ)) where
       same_lines = λ n w of. plain_line texts F n ∙ f.same_lines n w of ∙ sym (plain_line texts W w);
       same_columns = λ n w of. plain_column texts F n ∙ f.same_columns n w of ∙ sym (plain_column texts W w);
       plain_nodes = λ n w shape among s at plain. subst
-          (λ is. AreItems symbols rules shapes (plain_tree texts W) (plain_tree texts F) ns is (items_of (plain_tree texts W) w))
+          (λ is. AreItems rules shapes (plain_tree texts F) ns is (items_of (plain_tree texts W) w))
           (sym (plain_items texts F n))
-          (subst (AreItems symbols rules shapes (plain_tree texts W) (plain_tree texts F) ns (map (plain_item texts) (items_of F n)))
+          (subst (AreItems rules shapes (plain_tree texts F) ns (map (plain_item texts) (items_of F n)))
           (sym (plain_items texts W w))
           (plain_are_items (items_of F n) (items_of W w) (f.plain_nodes n w shape among (stands_plain n w s) (sym (plain_rule texts F n) ∙ at) plain)));
       list_nodes = λ n w shape among s at list. let cells = f.list_nodes n w shape among (stands_plain n w s) (sym (plain_rule texts F n) ∙ at) list in (
         cells.0,
         plain_items texts F n ∙ ap (map (plain_item texts)) cells.1,
         subst
-            (AreCells symbols rules shapes (plain_tree texts W) (plain_tree texts F) ns (cell_of symbols rules shape) w cells.0)
+            (AreCells rules shapes (plain_tree texts F) ns (cell_of rules shape) w cells.0)
             (sym (plain_children texts W w))
-            (plain_cells (cell_of symbols rules shape) w cells.0 (children W w) cells.2),
+            (plain_cells (cell_of rules shape) w cells.0 (children W w) cells.2),
       );
     }
 

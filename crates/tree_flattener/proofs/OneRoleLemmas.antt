@@ -9,7 +9,7 @@ use Rattle.flat_grammar.specs.declared.flat.FlatRule.{FlatRule}
 use Rattle.flat_grammar.specs.declared.flat.Shape.{Shape}
 use Rattle.flat_grammar.specs.Rules.{HasRule}
 use Rattle.flat_grammar.specs.WellFormed.{cell_of, IsListShape}
-use Rattle.flat_grammar.specs.FlatTrees.{StandsFor, AreCells, AreItems, IsFlatTree}
+use Rattle.flat_grammar.specs.FlatTrees.{IsNodeOf, AreCells, AreItems, IsFlatTree}
 use Rattle.tree_flattener.proofs.OnePathLemmas.{rule_there, rule_inside, same_held}
 use Rattle.tree_flattener.proofs.OneRuleLemmas.{one_cell_rule}
 
@@ -17,10 +17,10 @@ module _ (symbols : List FlatSymbol) (rules : List FlatRule) (shapes : List Shap
   -- Flat node n of F and flat node m of G have the same role: they stand for one written node, or are cells of one list node
   -- with the same elements from there on.
   pub data IsAlike : ℕ → ℕ → Type 0 where
-    written : {n m : ℕ} (w : ℕ) → StandsFor symbols rules shapes W F ns n w → StandsFor symbols rules shapes W G ms m w → IsAlike n m
+    written : {n m : ℕ} (w : ℕ) → IsNodeOf rules shapes F ns n w → IsNodeOf rules shapes G ms m w → IsAlike n m
     cell : {n m : ℕ} (shape : Shape) (w : ℕ) (xs : List ℕ) → Contains shapes shape → shape.list ≡ true
-        → AreCells symbols rules shapes W F ns (cell_of symbols rules shape) w n xs
-        → AreCells symbols rules shapes W G ms (cell_of symbols rules shape) w m xs → IsAlike n m
+        → AreCells rules shapes F ns (cell_of rules shape) w n xs
+        → AreCells rules shapes G ms (cell_of rules shape) w m xs → IsAlike n m
 
   -- the items are the same terminal, or nodes with the same role
   abbrev pub IsAlikeItem : Item V → Item V → Type 0
@@ -44,7 +44,7 @@ module _ (symbols : List FlatSymbol) (rules : List FlatRule) (shapes : List Shap
   more_items a b is js h all (suc k) x e = all k x e
 
   -- items that stand for the same are alike
-  alike_items : (is js ws : List (Item V)) → AreItems symbols rules shapes W F ns is ws → AreItems symbols rules shapes W G ms js ws → HasAll is js
+  alike_items : (is js ws : List (Item V)) → AreItems rules shapes F ns is ws → AreItems rules shapes G ms js ws → HasAll is js
   alike_items [] js ws h i = no_items js
   alike_items (Child n ∷ is) js [] h i = absurd h
   alike_items (Child n ∷ is) js (Leaf u ∷ ws) h i = absurd h
@@ -58,7 +58,7 @@ module _ (symbols : List FlatSymbol) (rules : List FlatRule) (shapes : List Shap
       more_items (Child n) (Child m) is js (written w h.0 i.0) (alike_items is js ws h.1 i.1)
   alike_items (Leaf v ∷ is) (Leaf u ∷ js) (Leaf x ∷ ws) h i = more_items (Leaf v) (Leaf u) is js (h.0 ∙ sym i.0) (alike_items is js ws h.1 i.1)
 
-  cell_number : (T : Tree V) (xs : List ℕ) (c : SymId) (w n : ℕ) (elements : List ℕ) → AreCells symbols rules shapes W T xs c w n elements
+  cell_number : (T : Tree V) (xs : List ℕ) (c : SymId) (w n : ℕ) (elements : List ℕ) → AreCells rules shapes T xs c w n elements
       → slice_get xs n ≡ Some w
   cell_number T xs c w n [] (r, has, left, right, none, of) = of
   cell_number T xs c w n (x ∷ elements) (r, element, e, next, has, has_element, left, right, items, of, stands, rest) = of
@@ -67,11 +67,11 @@ module _ (symbols : List FlatSymbol) (rules : List FlatRule) (shapes : List Shap
   pub alike_numbers : (n m : ℕ) → IsAlike n m → (w : ℕ) × (slice_get ns n ≡ Some w) × (slice_get ms m ≡ Some w)
   alike_numbers n m (written w s t) = (w, s.1, t.1)
   alike_numbers n m (cell shape w xs among list s t) =
-      (w, cell_number F ns (cell_of symbols rules shape) w n xs s, cell_number G ms (cell_of symbols rules shape) w m xs t)
+      (w, cell_number F ns (cell_of rules shape) w n xs s, cell_number G ms (cell_of rules shape) w m xs t)
 
   module _ (shaped : (w : ℕ) → w < length W → (shape : Shape) × Contains shapes shape × (rule_at W w ≡ Some shape.rule.0))
-      (lists : (shape : Shape) → Contains shapes shape → shape.list ≡ true → IsListShape symbols rules shape (cell_of symbols rules shape))
-      (f : IsFlatTree symbols rules shapes W F ns) (g : IsFlatTree symbols rules shapes W G ms) where
+      (lists : (shape : Shape) → Contains shapes shape → shape.list ≡ true → IsListShape symbols rules shape (cell_of rules shape))
+      (f : IsFlatTree rules shapes W F ns) (g : IsFlatTree rules shapes W G ms) where
     -- and are nodes of their trees
     pub alike_inside : (n m : ℕ) → IsAlike n m → (n < length F) × (m < length G)
     alike_inside n m a = let (w, e, h) = alike_numbers n m a in let i = slice_get_within ns n w e in let j = slice_get_within ms m w h in
@@ -79,12 +79,12 @@ module _ (symbols : List FlatSymbol) (rules : List FlatRule) (shapes : List Shap
 
     -- the same rule, where the right sides of two cells agree
     cells_rule : (shape : Shape) → Contains shapes shape → shape.list ≡ true → (n m : ℕ) (r q : FlatRule) → HasRule rules F n r → HasRule rules G m q
-        → r.left ≡ cell_of symbols rules shape → q.left ≡ cell_of symbols rules shape → r.right ≡ q.right → rule_at F n ≡ rule_at G m
+        → r.left ≡ cell_of rules shape → q.left ≡ cell_of rules shape → r.right ≡ q.right → rule_at F n ≡ rule_at G m
     cells_rule shape among list n m r q (i, at, e) (j, other, h) left right same =
-        at ∙ ap Some (one_cell_rule symbols rules shape (cell_of symbols rules shape) (lists shape among list) i j r q e h left right same)
+        at ∙ ap Some (one_cell_rule symbols rules shape (cell_of rules shape) (lists shape among list) i j r q e h left right same)
         ∙ sym other
 
-    stands_rule : (n m w : ℕ) → StandsFor symbols rules shapes W F ns n w → StandsFor symbols rules shapes W G ms m w → rule_at F n ≡ rule_at G m
+    stands_rule : (n m w : ℕ) → IsNodeOf rules shapes F ns n w → IsNodeOf rules shapes G ms m w → rule_at F n ≡ rule_at G m
     stands_rule n m w s t = f.same_rules n w s ∙ sym (g.same_rules m w t)
 
     -- a rule that both nodes have
@@ -100,7 +100,7 @@ module _ (symbols : List FlatSymbol) (rules : List FlatRule) (shapes : List Shap
         (q, element', e', next', has', has_element', left', right', items', of', stands', rest')) =
         let same = same_rule e e' element element' (stands_rule e e' x stands stands') has_element has_element' in
         cells_rule shape among list n m r q has has' left left'
-        (right ∙ ap (λ (p : FlatRule). p.left ∷ cell_of symbols rules shape ∷ []) same ∙ sym right')
+        (right ∙ ap (λ (p : FlatRule). p.left ∷ cell_of rules shape ∷ []) same ∙ sym right')
 
     -- and like items
     pub alike_all : (n m : ℕ) → IsAlike n m → HasAll (items_of F n) (items_of G m)

@@ -55,8 +55,8 @@ module _ (symbols : List FlatSymbol) (rules : List FlatRule) (shapes : List Shap
 
 module _ (symbols : List FlatSymbol) (rules : List FlatRule) (shapes : List Shape) {V : Type 0} (W : Tree V)
     (shaped : (w : ℕ) → w < length W → (shape : Shape) × Contains shapes shape × (rule_at W w ≡ Some shape.rule.0))
-    (lists : (shape : Shape) → Contains shapes shape → shape.list ≡ true → IsListShape symbols rules shape (cell_of symbols rules shape)) where
-  module _ (F G : Tree V) (ns ms : List ℕ) (f : IsFlatTree symbols rules shapes W F ns) (g : IsFlatTree symbols rules shapes W G ms) where
+    (lists : (shape : Shape) → Contains shapes shape → shape.list ≡ true → IsListShape symbols rules shape (cell_of rules shape)) where
+  module _ (F G : Tree V) (ns ms : List ℕ) (f : IsFlatTree rules shapes W F ns) (g : IsFlatTree rules shapes W G ms) where
     -- a child that both have has one number
     old_child : (p j c d : ℕ) → IsSame symbols rules shapes W F G ns ms d → slice_get (items_of F p) j ≡ Some (Child c)
         → slice_get (items_of G p) j ≡ Some (Child d) → c ≡ d
@@ -91,7 +91,7 @@ module _ (symbols : List FlatSymbol) (rules : List FlatRule) (shapes : List Shap
         go (inr h) = h
         go (inl h) = let l = ascending F f.tree p i j c (suc k) item met.item h in absurd (omega arith)
 
-  module _ (F G : Tree V) (ns ms : List ℕ) (f : IsFlatTree symbols rules shapes W F ns) (g : IsFlatTree symbols rules shapes W G ms) where
+  module _ (F G : Tree V) (ns ms : List ℕ) (f : IsFlatTree rules shapes W F ns) (g : IsFlatTree rules shapes W G ms) where
     turned : (n : ℕ) → IsSame symbols rules shapes W F G ns ms n → IsSame symbols rules shapes W G F ms ns n
     turned n same = record { role = alike_back symbols rules shapes W F G ns ms n n same.role; parent = sym same.parent; place = sym same.place }
 
@@ -176,7 +176,7 @@ module _ (symbols : List FlatSymbol) (rules : List FlatRule) (shapes : List Shap
         placed : (t : Tree V) {z : Node V} → slice_get t n ≡ Some z → place_of t n ≡ z.place
         placed t e = rw (e, place_of) refl
 
-  module _ (F G : Tree V) (ns ms : List ℕ) (f : IsFlatTree symbols rules shapes W F ns) (g : IsFlatTree symbols rules shapes W G ms) where
+  module _ (F G : Tree V) (ns ms : List ℕ) (f : IsFlatTree rules shapes W F ns) (g : IsFlatTree rules shapes W G ms) where
     same_lists : (xs ys : List (Item V)) → ((k : ℕ) (x : Item V) → slice_get xs k ≡ Some x → slice_get ys k ≡ Some x)
         → ((k : ℕ) (x : Item V) → slice_get ys k ≡ Some x → slice_get xs k ≡ Some x) → xs ≡ ys
     same_lists xs ys to back = let one = as_long xs ys (λ k x e. (x, to k x e)) in let two = as_long ys xs (λ k x e. (x, back k x e)) in
@@ -204,7 +204,7 @@ module _ (symbols : List FlatSymbol) (rules : List FlatRule) (shapes : List Shap
 -- what fits a well-formed grammar has one flat tree
 module _ (symbols : List FlatSymbol) (rules : List FlatRule) (shapes : List Shape) (root : SymId) (well : IsWellFormed symbols rules shapes root)
     (W : Tree Plain) (fits : IsFitting symbols rules shapes root W) (F G : Tree Plain) (ns ms : List ℕ)
-    (f : IsFlatTree symbols rules shapes W F ns) (g : IsFlatTree symbols rules shapes W G ms) where
+    (f : IsFlatTree rules shapes W F ns) (g : IsFlatTree rules shapes W G ms) where
   pub same_fitting : (F ≡ G) × (ns ≡ ms)
   same_fitting =
       let shaped : (w : ℕ) → w < length W → (shape : Shape) × Contains shapes shape × (rule_at W w ≡ Some shape.rule.0) =

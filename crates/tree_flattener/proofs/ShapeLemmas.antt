@@ -115,34 +115,34 @@ not_true false e = refl
 
 module _ (symbols : List FlatSymbol) (rules : List FlatRule) (shapes : List Shape) (root : SymId) (well : IsWellFormed symbols rules shapes root) where
   abbrev plain_rule : FlatRule → Bool
-  plain_rule r = not (is_cell symbols rules shapes r.left)
+  plain_rule r = not (is_cell rules shapes r.left)
 
   shape_place : (i : ℕ) (shape : Shape) → slice_get shapes i ≡ Some shape → slice_get (positions_from plain_rule 0 rules) i ≡ Some shape.rule.0
   shape_place i shape e = ap (λ xs. slice_get xs i) (sym well.each_shape) ∙ slice_get-map (λ (s : Shape). s.rule.0) shapes i ∙ ap (option_map (λ (s : Shape). s.rule.0)) e
 
   -- a shape has a rule, whose left side is no cell
-  pub shape_rule : (shape : Shape) → Contains shapes shape → (r : FlatRule) × (slice_get rules shape.rule.0 ≡ Some r) × (is_cell symbols rules shapes r.left ≡ false)
+  pub shape_rule : (shape : Shape) → Contains shapes shape → (r : FlatRule) × (slice_get rules shape.rule.0 ≡ Some r) × (is_cell rules shapes r.left ≡ false)
   shape_rule shape among = let at = slice_get-contains shapes shape among in let (j, r, here, got, pass) = position_at plain_rule rules 0 at.0 shape.rule.0 (shape_place at.0 shape at.1) in
-      (r, ap (slice_get rules) (let e : shape.rule.0 ≡ j = omega arith in e) ∙ got, not_true (is_cell symbols rules shapes r.left) pass)
+      (r, ap (slice_get rules) (let e : shape.rule.0 ≡ j = omega arith in e) ∙ got, not_true (is_cell rules shapes r.left) pass)
 
   -- the rules of two shapes are different
   pub shape_rules_rise : (i j : ℕ) (shape other : Shape) → slice_get shapes i ≡ Some shape → slice_get shapes j ≡ Some other → i < j → shape.rule.0 < other.rule.0
   shape_rules_rise i j shape other e f h = position_rises plain_rule rules 0 i j shape.rule.0 other.rule.0 (shape_place i shape e) (shape_place j other f) h
 
-  pub list_shape : (shape : Shape) → Contains shapes shape → shape.list ≡ true → IsListShape symbols rules shape (cell_of symbols rules shape)
-  list_shape shape among list = All-contains (λ (s : Shape). IsTrue s.list → IsListShape symbols rules s (cell_of symbols rules s)) shapes shape well.each_list among list
+  pub list_shape : (shape : Shape) → Contains shapes shape → shape.list ≡ true → IsListShape symbols rules shape (cell_of rules shape)
+  list_shape shape among list = All-contains (λ (s : Shape). IsTrue s.list → IsListShape symbols rules s (cell_of rules s)) shapes shape well.each_list among list
 
   abbrev has_cell : SymId → Shape → Bool
-  has_cell cell s = s.list && is_same_symbol cell (cell_of symbols rules s)
+  has_cell cell s = s.list && is_same_symbol cell (cell_of rules s)
 
   -- a list's cell is one
-  pub is_cell_of : (shape : Shape) → Contains shapes shape → shape.list ≡ true → IsTrue (is_cell symbols rules shapes (cell_of symbols rules shape))
+  pub is_cell_of : (shape : Shape) → Contains shapes shape → shape.list ≡ true → IsTrue (is_cell rules shapes (cell_of rules shape))
   is_cell_of shape among list = go shapes among
     where
-      passes : has_cell (cell_of symbols rules shape) shape ≡ true
-      passes = rw list (eq-eqb (cell_of symbols rules shape).0 (cell_of symbols rules shape).0 refl)
+      passes : has_cell (cell_of rules shape) shape ≡ true
+      passes = rw list (eq-eqb (cell_of rules shape).0 (cell_of rules shape).0 refl)
 
-      go : (xs : List Shape) → Contains xs shape → list_any (has_cell (cell_of symbols rules shape)) xs ≡ true
+      go : (xs : List Shape) → Contains xs shape → list_any (has_cell (cell_of rules shape)) xs ≡ true
       go [] m = absurd (omega (arith, m.1))
       go (x ∷ xs) m = at (contains-cons x shape xs m) (go xs)
         where
@@ -150,18 +150,18 @@ module _ (symbols : List FlatSymbol) (rules : List FlatRule) (shapes : List Shap
           or_true true = refl
           or_true false = refl
 
-          at : (x ≡ shape) ⊎ Contains xs shape → (Contains xs shape → list_any (has_cell (cell_of symbols rules shape)) xs ≡ true) → (has_cell (cell_of symbols rules shape) x || list_any (has_cell (cell_of symbols rules shape)) xs) ≡ true
-          at (inl same) ih = ap (λ b. b || list_any (has_cell (cell_of symbols rules shape)) xs) (ap (has_cell (cell_of symbols rules shape)) same ∙ passes)
-          at (inr n) ih = ap (λ b. has_cell (cell_of symbols rules shape) x || b) (ih n) ∙ or_true (has_cell (cell_of symbols rules shape) x)
+          at : (x ≡ shape) ⊎ Contains xs shape → (Contains xs shape → list_any (has_cell (cell_of rules shape)) xs ≡ true) → (has_cell (cell_of rules shape) x || list_any (has_cell (cell_of rules shape)) xs) ≡ true
+          at (inl same) ih = ap (λ b. b || list_any (has_cell (cell_of rules shape)) xs) (ap (has_cell (cell_of rules shape)) same ∙ passes)
+          at (inr n) ih = ap (λ b. has_cell (cell_of rules shape) x || b) (ih n) ∙ or_true (has_cell (cell_of rules shape) x)
 
   pub element_has_rule : (shape : Shape) → Contains shapes shape → shape.list ≡ true → (s : SymId) → Contains shape.right s
-      → (k : ℕ) × (r : FlatRule) × (slice_get rules k ≡ Some r) × (r.left ≡ cell_of symbols rules shape) × (r.right ≡ s ∷ cell_of symbols rules shape ∷ [])
-  element_has_rule shape among list s m = let l = list_shape shape among list in let cell = cell_of symbols rules shape in
+      → (k : ℕ) × (r : FlatRule) × (slice_get rules k ≡ Some r) × (r.left ≡ cell_of rules shape) × (r.right ≡ s ∷ cell_of rules shape ∷ [])
+  element_has_rule shape among list s m = let l = list_shape shape among list in let cell = cell_of rules shape in
       side_there rules cell (s ∷ cell ∷ [])
       (subst (λ xs. Contains xs (s ∷ cell ∷ [])) (sym l.cells) (append_has (map (λ (q : SymId). q ∷ cell ∷ []) (different shape.right)) [] (s ∷ cell ∷ []) (inl (map_has (λ (q : SymId). q ∷ cell ∷ []) (different shape.right) s (different_has shape.right s m)))))
 
-  pub end_has_rule : (shape : Shape) → Contains shapes shape → shape.list ≡ true → (k : ℕ) × (r : FlatRule) × (slice_get rules k ≡ Some r) × (r.left ≡ cell_of symbols rules shape) × (r.right ≡ [])
-  end_has_rule shape among list = let l = list_shape shape among list in let cell = cell_of symbols rules shape in
+  pub end_has_rule : (shape : Shape) → Contains shapes shape → shape.list ≡ true → (k : ℕ) × (r : FlatRule) × (slice_get rules k ≡ Some r) × (r.left ≡ cell_of rules shape) × (r.right ≡ [])
+  end_has_rule shape among list = let l = list_shape shape among list in let cell = cell_of rules shape in
       side_there rules cell [] (subst (λ xs. Contains xs []) (sym l.cells) (append_has (map (λ (q : SymId). q ∷ cell ∷ []) (different shape.right)) [] [] (inr refl)))
 
   -- the symbols of right sides are symbols
@@ -171,15 +171,15 @@ module _ (symbols : List FlatSymbol) (rules : List FlatRule) (shapes : List Shap
   -- a plain shape has few symbols
   pub few_in_shape : (shape : Shape) → Contains shapes shape → shape.list ≡ false → length shape.right < 65536
   few_in_shape shape among plain = let rule = shape_rule shape among in
-      let same : shape.right ≡ rule.0.right = All-contains (λ (s : Shape). s.list ≡ false → s.right ≡ right_side symbols rules s) shapes shape well.each_plain among plain ∙ side rule.0 rule.1 in
+      let same : shape.right ≡ rule.0.right = All-contains (λ (s : Shape). s.list ≡ false → s.right ≡ right_side rules s) shapes shape well.each_plain among plain ∙ side rule.0 rule.1 in
       let few = All-contains (λ (r : FlatRule). length r.right < 2 ^ 16) rules rule.0 well.numbered_occurrences (contains-slice_get rules shape.rule.0 rule.0 rule.1) in omega (arith, ap length same)
     where
-      side : (r : FlatRule) → slice_get rules shape.rule.0 ≡ Some r → right_side symbols rules shape ≡ r.right
+      side : (r : FlatRule) → slice_get rules shape.rule.0 ≡ Some r → right_side rules shape ≡ r.right
       side r e = rw (e, right_side) refl
 
   -- an element of a list is no terminal
   pub element_nonterminal : (shape : Shape) → Contains shapes shape → shape.list ≡ true → (s : SymId) → Contains shape.right s → IsTrue (is_nonterminal symbols s)
-  element_nonterminal shape among list s m = first _ _ (All-contains (λ (q : SymId). IsTrue (is_nonterminal symbols q && not (is_same_symbol q (cell_of symbols rules shape)))) shape.right s (list_shape shape among list).elements m)
+  element_nonterminal shape among list s m = first _ _ (All-contains (λ (q : SymId). IsTrue (is_nonterminal symbols q && not (is_same_symbol q (cell_of rules shape)))) shape.right s (list_shape shape among list).elements m)
     where
       first : (a b : Bool) → IsTrue (a && b) → IsTrue a
       first true b h = refl

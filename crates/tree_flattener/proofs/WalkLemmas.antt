@@ -44,14 +44,14 @@ module _ (symbols : List FlatSymbol) (rules : List FlatRule) (shapes : List Shap
     pub few_in_cell : places s.flat at.tail ≤ 1
     few_in_cell = (tail_of_list symbols rules shapes W walk.suits s.flat s.node_of s.flat_of (length s.flat_of) at.node at.tail at.done walk.draft walk.within lists).1
 
-    pub closed_list : ((k c : ℕ) → item_at W at.node k ≡ Some (Child c) → c < length s.flat_of) → (i : RuleId) → HasForm symbols rules shapes W (λ shape. IsEndRule rules (cell_of symbols rules shape) i) at.node
+    pub closed_list : ((k c : ℕ) → item_at W at.node k ≡ Some (Child c) → c < length s.flat_of) → (i : RuleId) → HasForm symbols rules shapes W (λ shape. IsEndRule rules (cell_of rules shape) i) at.node
         → (G : Table) (more : List ℕ) → IsGrown s.flat i.0 (Some at.tail) G → more ≡ s.node_of ++ at.node ∷ [] → IsClosed symbols rules shapes W s.flat s.node_of s.flat_of G more at.node
     closed_list all_met i ends G more e f = subst (λ z. IsClosed symbols rules shapes W s.flat s.node_of s.flat_of G z at.node) (sym f)
         (list_closed symbols rules shapes W walk.suits s.flat s.node_of s.flat_of (length s.flat_of) at.node at.tail at.done walk.draft walk.within lists all_met i ends G
         (adds s.flat walk.draft.numbered.tree i.0 at.tail walk.draft.open_tail G e))
 
     module _ (up : parent_of W (length s.flat_of) ≡ Some at.node) (r : FlatRule) (has : HasRule rules W (length s.flat_of) r) (elements : List (Option RuleId))
-        (are : HasForm symbols rules shapes W (λ shape. AreElementRules rules (cell_of symbols rules shape) elements) at.node) where
+        (are : HasForm symbols rules shapes W (λ shape. AreElementRules rules (cell_of rules shape) elements) at.node) where
       -- the element's symbol has a rule
       pub has_rule_of_cell : (i : RuleId) × (slice_get elements r.left.0 ≡ Some (Some i))
       has_rule_of_cell = let (shape, among, is) = shape_here in go (place_of W (length s.flat_of)) (own_item W walk.suits.tree (length s.flat_of) at.node up) shape among is
@@ -84,20 +84,20 @@ module _ (symbols : List FlatSymbol) (rules : List FlatRule) (shapes : List Shap
     width_is width h = let (shape, among, is) = shape_here in h shape among is ∙ sym (walk.suits.few at.node shape among is (plain shape among is)).0
 
     pub closed_plain : (width : ℕ) → width ≡ length (items_of W at.node) → (H : Table) (more : List ℕ) → Fills s.flat H at.tail → more ≡ s.node_of
-        → AreItems symbols rules shapes W H more (items_of H at.tail) (take width (items_of W at.node)) → IsClosed symbols rules shapes W s.flat s.node_of s.flat_of H more at.node
+        → AreItems rules shapes H more (items_of H at.tail) (take width (items_of W at.node)) → IsClosed symbols rules shapes W s.flat s.node_of s.flat_of H more at.node
     closed_plain width e H more fills same h = subst (λ z. IsClosed symbols rules shapes W s.flat s.node_of s.flat_of H z at.node) (sym same)
         (plain_closed symbols rules shapes W walk.suits s.flat s.node_of s.flat_of (length s.flat_of) at.node at.tail at.done walk.draft walk.within plain H fills
-        (subst (λ ws. AreItems symbols rules shapes W H s.node_of (items_of H at.tail) ws) (take_all (items_of W at.node) width (omega arith)) (subst (λ z. AreItems symbols rules shapes W H z (items_of H at.tail) (take width (items_of W at.node))) same h)))
+        (subst (λ ws. AreItems rules shapes H s.node_of (items_of H at.tail) ws) (take_all (items_of W at.node) width (omega arith)) (subst (λ z. AreItems rules shapes H z (items_of H at.tail) (take width (items_of W at.node))) same h)))
 
     module _ (up : parent_of W (length s.flat_of) ≡ Some at.node) (j : ℕ) (rule_is : rule_at W (length s.flat_of) ≡ Some j) where
       pub attached_child : (end : ℕ) → suc end ≡ place_of W (length s.flat_of) → (H G : Table) (mid more : List ℕ) (f : ℕ) → Fills s.flat H at.tail → mid ≡ s.node_of
-          → AreItems symbols rules shapes W H mid (items_of H at.tail) (take end (items_of W at.node)) → IsGrown H j (Some at.tail) G → more ≡ mid ++ length s.flat_of ∷ [] → f ≡ length H
+          → AreItems rules shapes H mid (items_of H at.tail) (take end (items_of W at.node)) → IsGrown H j (Some at.tail) G → more ≡ mid ++ length s.flat_of ∷ [] → f ≡ length H
           → IsAttached symbols rules shapes W s.flat s.node_of s.flat_of G more at.node (length s.flat_of) f
       attached_child end to H G mid more f fills same h added e is =
           subst (λ z. IsAttached symbols rules shapes W s.flat s.node_of s.flat_of G more at.node (length s.flat_of) z) (sym is)
           (subst (λ z. IsAttached symbols rules shapes W s.flat s.node_of s.flat_of G z at.node (length s.flat_of) (length H)) (sym (e ∙ ap (λ z. z ++ length s.flat_of ∷ []) same))
           (child_attached symbols rules shapes W walk.suits s.flat s.node_of s.flat_of (length s.flat_of) at.node at.tail at.done walk.draft walk.within plain H fills up j rule_is end to
-          (subst (λ z. AreItems symbols rules shapes W H z (items_of H at.tail) (take end (items_of W at.node))) same h) G (adds H fills.tree j at.tail (fills.opened at.tail walk.draft.open_tail) G added)))
+          (subst (λ z. AreItems rules shapes H z (items_of H at.tail) (take end (items_of W at.node))) same h) G (adds H fills.tree j at.tail (fills.opened at.tail walk.draft.open_tail) G added)))
 
   pub terminals_left : ((k c : ℕ) → item_at W at.node k ≡ Some (Child c) → c < length s.flat_of) → (k : ℕ) → at.done ≤ k → k < length (items_of W at.node) → IsTerminal W at.node (k + 1)
   terminals_left = rest_terminals W at.node (length s.flat_of) at.done walk.draft.before walk.draft.behind
@@ -132,7 +132,7 @@ module _ (symbols : List FlatSymbol) (rules : List FlatRule) (shapes : List Shap
     numbered_closed = closed_numbered symbols rules shapes W walk.suits s.flat s.node_of s.flat_of (length s.flat_of) at.node at.tail at.done walk.draft G more a
 
     -- all is there once the root is closed
-    pub flat_tree_closed : IsPlaced W G more → at.node ≡ 0 → length s.flat_of ≡ length W → IsFlatTree symbols rules shapes W G more
+    pub flat_tree_closed : IsPlaced W G more → at.node ≡ 0 → length s.flat_of ≡ length W → IsFlatTree rules shapes W G more
     flat_tree_closed = is_flat_tree symbols rules shapes W walk.suits s.flat s.node_of s.flat_of (length s.flat_of) at.node at.tail at.done walk.draft G more a
 
   -- with the node closed, the spot is at its parent
@@ -168,7 +168,7 @@ module _ (symbols : List FlatSymbol) (rules : List FlatRule) (shapes : List Shap
     pub cell_added : (i : ℕ) (H : Table) → IsGrown s.flat i (Some at.tail) H → Adds s.flat H i at.tail
     cell_added i H one = adds s.flat walk.draft.numbered.tree i at.tail walk.draft.open_tail H one
 
-    module _ (lists : HasForm symbols rules shapes W (λ shape. shape.list ≡ true) at.node) (elements : List (Option RuleId)) (are : HasForm symbols rules shapes W (λ shape. AreElementRules rules (cell_of symbols rules shape) elements) at.node)
+    module _ (lists : HasForm symbols rules shapes W (λ shape. shape.list ≡ true) at.node) (elements : List (Option RuleId)) (are : HasForm symbols rules shapes W (λ shape. AreElementRules rules (cell_of rules shape) elements) at.node)
         (symbol : SymId) (symbol_is : (r : FlatRule) → HasRule rules W n r → symbol ≡ r.left) (o : Option RuleId) (o_is : (i : RuleId) → slice_get elements symbol.0 ≡ Some (Some i) → o ≡ Some i) where
       pub rule_there : (r : FlatRule) × HasRule rules W n r
       rule_there = let h = walk.suits.ruled n next_inside in (h.0, h.1)
@@ -191,7 +191,7 @@ module _ (symbols : List FlatSymbol) (rules : List FlatRule) (shapes : List Shap
 
     module _ (plain : HasForm symbols rules shapes W (λ shape. shape.list ≡ false) at.node) where
       pub child_added : (j : ℕ) → rule_at W n ≡ Some j → (place : ℕ) → place ≡ place_of W n → (H G : Table) (mid more : List ℕ) (f : ℕ) → Fills s.flat H at.tail → mid ≡ s.node_of
-          → AreItems symbols rules shapes W H mid (items_of H at.tail) (take (place - 1) (items_of W at.node)) → IsGrown H j (Some at.tail) G → more ≡ mid ++ n ∷ [] → f ≡ length H
+          → AreItems rules shapes H mid (items_of H at.tail) (take (place - 1) (items_of W at.node)) → IsGrown H j (Some at.tail) G → more ≡ mid ++ n ∷ [] → f ≡ length H
           → IsAttached symbols rules shapes W s.flat s.node_of s.flat_of G more at.node n f
       child_added j rule_is place place_is H G mid more f fills same h added more_is f_is =
           subst (λ z. IsAttached symbols rules shapes W s.flat s.node_of s.flat_of G more at.node z f) (sym next)
@@ -205,7 +205,7 @@ module _ (symbols : List FlatSymbol) (rules : List FlatRule) (shapes : List Shap
         (e ∙ ap (λ z. z ++ f ∷ []) same_of) (is ∙ ap (λ (z : ℕ). record { node = z; tail = f; done = 0 }) next)
 
 -- so many items at most stand for so many
-pub few_items : (symbols : List FlatSymbol) (rules : List FlatRule) (shapes : List Shape) (W H : Table) (node_of : List ℕ) (p end : ℕ) (xs : List (Item Value)) → AreItems symbols rules shapes W H node_of (items_of H p) (take end xs) → places H p ≤ end
+pub few_items : (symbols : List FlatSymbol) (rules : List FlatRule) (shapes : List Shape) (W H : Table) (node_of : List ℕ) (p end : ℕ) (xs : List (Item Value)) → AreItems rules shapes H node_of (items_of H p) (take end xs) → places H p ≤ end
 few_items symbols rules shapes W H node_of p end xs h = omega (arith, items_length symbols rules shapes W H node_of (items_of H p) (take end xs) h, take_short xs end)
 
 module _ (symbols : List FlatSymbol) (rules : List FlatRule) (shapes : List Shape) (W F : Table) (node_of flat_of : List ℕ) (numbered : IsNumbered symbols rules shapes W F node_of flat_of) (n : ℕ) (met : n < length flat_of) (xs : List ℕ) (same : xs ≡ flat_of) where

@@ -8,7 +8,7 @@ use Rattle.flat_grammar.specs.declared.flat.FlatRule.{FlatRule}
 use Rattle.flat_grammar.specs.declared.flat.Shape.{Shape}
 use Rattle.flat_grammar.specs.Rules.{HasRule}
 use Rattle.flat_grammar.specs.WellFormed.{cell_of}
-use Rattle.flat_grammar.specs.FlatTrees.{StandsFor, AreItems, AreCells, is_cell}
+use Rattle.flat_grammar.specs.FlatTrees.{IsNodeOf, AreItems, AreCells, is_cell}
 use Rattle.tree_store.specs.Growth.{IsOpen}
 use Rattle.tree_flattener.specs.declared.draft.Draft.{Draft}
 use Rattle.tree_flattener.specs.declared.draft.Spot.{Spot}
@@ -57,11 +57,11 @@ module _ (symbols : List FlatSymbol) (rules : List FlatRule) (shapes : List Shap
   pub record Suits : Type 0 where
     pub tree : IsTree W
     pub shaped : (n : ℕ) → n < length W → (shape : Shape) × Contains shapes shape × (rule_at W n ≡ Some shape.rule.0)
-    pub ruled : (n : ℕ) → n < length W → (r : FlatRule) × HasRule rules W n r × (is_cell symbols rules shapes r.left ≡ false)
+    pub ruled : (n : ℕ) → n < length W → (r : FlatRule) × HasRule rules W n r × (is_cell rules shapes r.left ≡ false)
     pub few : (n : ℕ) (shape : Shape) → Contains shapes shape → rule_at W n ≡ Some shape.rule.0 → shape.list ≡ false → (length (items_of W n) ≡ length shape.right) × (length shape.right < 65536)
-    pub cells : (n : ℕ) (shape : Shape) → Contains shapes shape → rule_at W n ≡ Some shape.rule.0 → shape.list ≡ true → IsTrue (is_cell symbols rules shapes (cell_of symbols rules shape))
+    pub cells : (n : ℕ) (shape : Shape) → Contains shapes shape → rule_at W n ≡ Some shape.rule.0 → shape.list ≡ true → IsTrue (is_cell rules shapes (cell_of rules shape))
     pub elements : (n k : ℕ) (x : Item Value) (shape : Shape) → Contains shapes shape → rule_at W n ≡ Some shape.rule.0 → shape.list ≡ true → slice_get (items_of W n) k ≡ Some x
-        → (c : ℕ) × (x ≡ Child c) × ((r : FlatRule) → HasRule rules W c r → (i : ℕ) × (q : FlatRule) × (slice_get rules i ≡ Some q) × (q.left ≡ cell_of symbols rules shape) × (q.right ≡ r.left ∷ cell_of symbols rules shape ∷ []))
+        → (c : ℕ) × (x ≡ Child c) × ((r : FlatRule) → HasRule rules W c r → (i : ℕ) × (q : FlatRule) × (slice_get rules i ≡ Some q) × (q.left ≡ cell_of rules shape) × (q.right ≡ r.left ∷ cell_of rules shape ∷ []))
 
   module _ (F : Table) (node_of : List ℕ) where
     -- flat node c is a cell of written node w, and its element e stands for written node x
@@ -73,7 +73,7 @@ module _ (symbols : List FlatSymbol) (rules : List FlatRule) (shapes : List Shap
       pub left : rule.left ≡ cell
       pub right : rule.right ≡ element.left ∷ cell ∷ []
       pub of_list : slice_get node_of c ≡ Some w
-      pub stands : StandsFor symbols rules shapes W F node_of e x
+      pub stands : IsNodeOf rules shapes F node_of e x
 
     -- From flat node p, which has these items before, a chain of cells of written node w goes on with these elements up to the
     -- cell `tail`, which gets the next one.
@@ -83,27 +83,27 @@ module _ (symbols : List FlatSymbol) (rules : List FlatRule) (shapes : List Shap
 
     -- the first items of written node w stand below its flat node f, and `tail` gets the next one: for a list its last cell
     abbrev pub IsUpToAs : Bool → SymId → ℕ → ℕ → ℕ → ℕ → Type 0
-    IsUpToAs false cell w f done tail = (tail ≡ f) × AreItems symbols rules shapes W F node_of (items_of F f) (take done (items_of W w))
+    IsUpToAs false cell w f done tail = (tail ≡ f) × AreItems rules shapes F node_of (items_of F f) (take done (items_of W w))
     IsUpToAs true cell w f done tail = IsChain cell w f [] (filter_map child_number (take done (items_of W w))) tail
 
     -- all items of written node w stand below its flat node f
     abbrev pub IsWholeAs : Bool → SymId → ℕ → ℕ → Type 0
-    IsWholeAs false cell w f = AreItems symbols rules shapes W F node_of (items_of F f) (items_of W w)
-    IsWholeAs true cell w f = (c : ℕ) × (items_of F f ≡ Child c ∷ []) × AreCells symbols rules shapes W F node_of cell w c (children W w)
+    IsWholeAs false cell w f = AreItems rules shapes F node_of (items_of F f) (items_of W w)
+    IsWholeAs true cell w f = (c : ℕ) × (items_of F f ≡ Child c ∷ []) × AreCells rules shapes F node_of cell w c (children W w)
 
     module _ (flat_of : List ℕ) where
       abbrev pub IsUpTo : ℕ → ℕ → ℕ → Type 0
-      IsUpTo w done tail = (shape : Shape) (f : ℕ) → Contains shapes shape → rule_at W w ≡ Some shape.rule.0 → slice_get flat_of w ≡ Some f → IsUpToAs shape.list (cell_of symbols rules shape) w f done tail
+      IsUpTo w done tail = (shape : Shape) (f : ℕ) → Contains shapes shape → rule_at W w ≡ Some shape.rule.0 → slice_get flat_of w ≡ Some f → IsUpToAs shape.list (cell_of rules shape) w f done tail
 
       abbrev pub IsWhole : ℕ → Type 0
-      IsWhole w = (shape : Shape) (f : ℕ) → Contains shapes shape → rule_at W w ≡ Some shape.rule.0 → slice_get flat_of w ≡ Some f → IsWholeAs shape.list (cell_of symbols rules shape) w f
+      IsWhole w = (shape : Shape) (f : ℕ) → Contains shapes shape → rule_at W w ≡ Some shape.rule.0 → slice_get flat_of w ≡ Some f → IsWholeAs shape.list (cell_of rules shape) w f
 
       -- Each written node has one flat node that is no cell, and these stand in the same order.
       pub record IsNumbered : Type 0 where
         pub tree : IsTree F
         pub each_node : length node_of ≡ length F
-        pub known : (w n : ℕ) → slice_get flat_of w ≡ Some n → StandsFor symbols rules shapes W F node_of n w × (rule_at F n ≡ rule_at W w)
-        pub only : (n w : ℕ) → StandsFor symbols rules shapes W F node_of n w → slice_get flat_of w ≡ Some n
+        pub known : (w n : ℕ) → slice_get flat_of w ≡ Some n → IsNodeOf rules shapes F node_of n w × (rule_at F n ≡ rule_at W w)
+        pub only : (n w : ℕ) → IsNodeOf rules shapes F node_of n w → slice_get flat_of w ≡ Some n
         pub rising : (w x n m : ℕ) → slice_get flat_of w ≡ Some n → slice_get flat_of x ≡ Some m → w < x → n < m
         pub root : slice_get flat_of 0 ≡ Some 0
         pub inside : (n w : ℕ) → slice_get node_of n ≡ Some w → w < length flat_of
@@ -129,12 +129,12 @@ module _ (symbols : List FlatSymbol) (rules : List FlatRule) (shapes : List Shap
     pub each_node : length more ≡ length G
     pub grows : Grows m F node_of G more
     pub few : length G ≤ length F + 2
-    pub new : StandsFor symbols rules shapes W G more f n
+    pub new : IsNodeOf rules shapes G more f n
     pub rule : rule_at G f ≡ rule_at W n
     pub behind : length F ≤ f
     pub open_new : IsOpen G f
     pub empty : items_of G f ≡ []
-    pub only : (k w : ℕ) → length F ≤ k → StandsFor symbols rules shapes W G more k w → (k ≡ f) × (w ≡ n)
+    pub only : (k w : ℕ) → length F ≤ k → IsNodeOf rules shapes G more k w → (k ≡ f) × (w ≡ n)
     pub inside : (k w : ℕ) → length F ≤ k → slice_get more k ≡ Some w → (w ≡ m) ⊎ (w ≡ n)
     pub link : (t : ℕ) → parent_of G f ≡ Some t → IsUpTo G more flat_of m (place_of W n) t
 
@@ -144,7 +144,7 @@ module _ (symbols : List FlatSymbol) (rules : List FlatRule) (shapes : List Shap
     pub each_node : length more ≡ length G
     pub grows : Grows m F node_of G more
     pub few : length G ≤ length F + 1
-    pub only : (k w : ℕ) → length F ≤ k → StandsFor symbols rules shapes W G more k w → ⊥
+    pub only : (k w : ℕ) → length F ≤ k → IsNodeOf rules shapes G more k w → ⊥
     pub inside : (k w : ℕ) → length F ≤ k → slice_get more k ≡ Some w → w ≡ m
     pub whole : IsWhole G more flat_of m
     pub open_node : (f : ℕ) → slice_get flat_of m ≡ Some f → IsOpen G f

@@ -37,7 +37,7 @@ module _ (symbols : List FlatSymbol) (rules : List FlatRule) where
   abbrev pub IsForm : Shape → Form → Type 0
   IsForm shape Unnamed = ⊥
   IsForm shape (Plain width) = (shape.list ≡ false) × (width ≡ length shape.right)
-  IsForm shape (Chain cells) = (shape.list ≡ true) × AreCellRules rules (cell_of symbols rules shape) cells
+  IsForm shape (Chain cells) = (shape.list ≡ true) × AreCellRules rules (cell_of rules shape) cells
 
   -- each shape's rule has its form
   abbrev pub AreForms : List Shape → List Form → Type 0

@@ -18,4 +18,4 @@ HasTooMany symbols rules flat _ = ⊥
 
 -- the written tree is refused for want of memory, or because its flat tree has too much of something
 abbrev pub IsRefused : {V : Type 0} → List FlatSymbol → List FlatRule → List Shape → Tree V → TreeFault → Type 0
-IsRefused {V} symbols rules shapes written e = (e ≡ fault.Memory) ⊎ ((flat : Tree V) × (node_of : List ℕ) × IsFlatTree symbols rules shapes written flat node_of × HasTooMany symbols rules flat e)
+IsRefused {V} symbols rules shapes written e = (e ≡ fault.Memory) ⊎ ((flat : Tree V) × (node_of : List ℕ) × IsFlatTree rules shapes written flat node_of × HasTooMany symbols rules flat e)

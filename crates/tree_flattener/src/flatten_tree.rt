@@ -76,7 +76,7 @@ fn attach_all(
 pub fn flat_tree(alloc: Global, flat: &Flat, written: &Tree) -> Result<Draft, Memory>
     requires suits { Suits flat.now.symbols flat.now.rules flat.now.shapes written.now }
     requires few { length written.now ≤ most_nodes }
-    ensures flat { IfOk result (λ draft. IsFlatTree flat.now.symbols flat.now.rules flat.now.shapes written.now draft.flat draft.node_of) }
+    ensures flat { IfOk result (λ draft. IsFlatTree flat.now.rules flat.now.shapes written.now draft.flat draft.node_of) }
     ensures inside { IfOk result (λ draft. All (λ n. n < length written.now) draft.node_of) }
 {
     let forms = forms(alloc, flat)?;
@@ -97,7 +97,7 @@ pub fn flatten(alloc: Global, flat: &Flat, written: Tree) -> Result<Trees, TreeF
     requires fits { (texts : List (List ℕ)) × IsFitting flat.now.symbols flat.now.rules flat.now.shapes flat.now.root (plain_tree texts written) }
     requires few { length written ≤ 1048576 }
     ensures written { IfOk result (λ trees. trees.written ≡ written) }
-    ensures flat { IfOk result (λ trees. IsFlatTree flat.now.symbols flat.now.rules flat.now.shapes written trees.flat trees.node_of) }
+    ensures flat { IfOk result (λ trees. IsFlatTree flat.now.rules flat.now.shapes written trees.flat trees.node_of) }
     ensures within { IfOk result (λ trees. IsWithinLimits flat.now.symbols flat.now.rules trees.flat) }
     ensures refused { IfErr result (λ e. IsRefused flat.now.symbols flat.now.rules flat.now.shapes written e) }
 {

@@ -2,10 +2,9 @@
 ghost use Rattle.std.specs.Prelude.{◌≡◌, ◌<◌, ◌≤◌, ◌⊎◌, ℕ, true, [], ◌∷◌, Contains, length, Some, None, IfOk, IfSome, slice_get, slice_set};
 ghost use Rattle.lido_base.specs.declared.ids.SymId.{SymId as Symbol};
 ghost use Rattle.lido_base.specs.declared.ids.RuleId.{RuleId as Id};
-ghost use Rattle.flat_grammar.specs.WellFormed.{cell_of as cell_symbol};
 ghost use Rattle.tree_flattener.specs.Forms.{IsElementOf, IsEndRule, AreElementRules, IsForm, AreForms};
 
-use flat_grammar::{Flat, FlatRule, Shape};
+use flat_grammar::{Flat, FlatRule, Shape, cell_of};
 use lido_base::{List, RuleId, SymId};
 use std::alloc::{AllocError, Global};
 
@@ -27,18 +26,6 @@ pub enum Form {
     Plain { width: usize },
     /// A flat node over a chain of cells.
     Chain(Cells),
-}
-
-/// The first symbol on the right side of the shape's rule: a list's cell.
-fn cell_of(flat: &Flat, shape: &Shape) -> SymId
-    ensures { result ≡ cell_symbol flat.now.symbols flat.now.rules shape.now }
-{
-    flat.rules
-        .as_slice()
-        .get(shape.rule.0 as usize)
-        .and_then(|rule| rule.right.as_slice().get(0))
-        .copied()
-        .unwrap_or(SymId(0))
 }
 
 /// The symbol of the element, where the rule is that of a cell with an element.

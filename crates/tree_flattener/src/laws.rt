@@ -17,11 +17,11 @@ pub fn one_flat_tree<V>()
         (W F G : Table V) (node_of others : List ℕ)
         → IsWellFormed symbols rules shapes root
         → ((w : ℕ) → w < length W → (shape : Shape) × Contains shapes shape × (rule_at W w ≡ Some shape.rule.0))
-        → IsFlatTree symbols rules shapes W F node_of → IsFlatTree symbols rules shapes W G others → (F ≡ G) × (node_of ≡ others) }
+        → IsFlatTree rules shapes W F node_of → IsFlatTree rules shapes W G others → (F ≡ G) × (node_of ≡ others) }
     ensures fitting { (symbols : List FlatSymbol) (rules : List FlatRule) (shapes : List Shape) (root : SymId)
         (W F G : Table Plain) (node_of others : List ℕ)
         → IsWellFormed symbols rules shapes root → IsFitting symbols rules shapes root W
-        → IsFlatTree symbols rules shapes W F node_of → IsFlatTree symbols rules shapes W G others → (F ≡ G) × (node_of ≡ others) }
+        → IsFlatTree rules shapes W F node_of → IsFlatTree rules shapes W G others → (F ≡ G) × (node_of ≡ others) }
 {}
 
 /// A flat tree stays one where its terminals are made plain, and the plain written tree has no other. Its instances and text
@@ -29,11 +29,11 @@ pub fn one_flat_tree<V>()
 pub fn plain_trees_stay_flat()
     ensures flat { (symbols : List FlatSymbol) (rules : List FlatRule) (shapes : List Shape) (texts : List (List ℕ))
         (W F : Table Terminal) (node_of : List ℕ)
-        → IsFlatTree symbols rules shapes W F node_of → IsFlatTree symbols rules shapes (plain_tree texts W) (plain_tree texts F) node_of }
+        → IsFlatTree rules shapes W F node_of → IsFlatTree rules shapes (plain_tree texts W) (plain_tree texts F) node_of }
     ensures only { (symbols : List FlatSymbol) (rules : List FlatRule) (shapes : List Shape) (root : SymId) (texts : List (List ℕ))
         (W F : Table Terminal) (node_of : List ℕ) (G : Table Plain) (others : List ℕ)
         → IsWellFormed symbols rules shapes root → IsFitting symbols rules shapes root (plain_tree texts W)
-        → IsFlatTree symbols rules shapes W F node_of → IsFlatTree symbols rules shapes (plain_tree texts W) G others
+        → IsFlatTree rules shapes W F node_of → IsFlatTree rules shapes (plain_tree texts W) G others
         → (G ≡ plain_tree texts F) × (others ≡ node_of) }
     ensures instances { (symbols : List FlatSymbol) (rules : List FlatRule) (texts : List (List ℕ)) (F : Table Terminal)
         → instances symbols rules (plain_tree texts F) ≡ instances symbols rules F }

@@ -27,8 +27,8 @@ pub fn add_terminals(written: &Tree, draft: &mut Draft, at: Spot, end: u32) -> R
     ensures nodes { draft.new.node_of ≡ draft.old.node_of }
     ensures same { draft.new.flat_of ≡ draft.old.flat_of }
     ensures items { OnOk result ((symbols : List FlatSymbol) (rules : List FlatRule) (shapes : List Shape)
-        → AreItems symbols rules shapes written.now draft.old.flat draft.old.node_of (items_of draft.old.flat at.tail) (take at.done (items_of written.now at.node))
-        → AreItems symbols rules shapes written.now draft.new.flat draft.new.node_of (items_of draft.new.flat at.tail) (take end (items_of written.now at.node))) }
+        → AreItems rules shapes draft.old.flat draft.old.node_of (items_of draft.old.flat at.tail) (take at.done (items_of written.now at.node))
+        → AreItems rules shapes draft.new.flat draft.new.node_of (items_of draft.new.flat at.tail) (take end (items_of written.now at.node))) }
 {
     for k in at.done..end {
         let value = written.terminal(NodeId(at.node), k + 1);

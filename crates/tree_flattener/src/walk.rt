@@ -58,7 +58,7 @@ fn close_list(
     requires walk { IsWalk flat.now.symbols flat.now.rules flat.now.shapes written.now draft.old at }
     requires placed { IsPlaced written.now draft.old.flat draft.old.node_of }
     requires all_met { (k c : ℕ) → item_at written.now at.node k ≡ Some (Child c) → c < length draft.old.flat_of }
-    requires list { HasForm flat.now.symbols flat.now.rules flat.now.shapes written.now (λ shape. (shape.list ≡ true) × AreCellRules flat.now.rules (cell_of flat.now.symbols flat.now.rules shape) cells.now) at.node }
+    requires list { HasForm flat.now.symbols flat.now.rules flat.now.shapes written.now (λ shape. (shape.list ≡ true) × AreCellRules flat.now.rules (cell_of flat.now.rules shape) cells.now) at.node }
     ensures closed { OnOk result (IsClosed flat.now.symbols flat.now.rules flat.now.shapes written.now draft.old.flat draft.old.node_of draft.old.flat_of draft.new.flat draft.new.node_of at.node) }
     ensures placed { OnOk result (IsPlaced written.now draft.new.flat draft.new.node_of) }
     ensures same { draft.new.flat_of ≡ draft.old.flat_of }
@@ -203,7 +203,7 @@ fn attach_element(
 ) -> Result<u32, Memory>
     requires walk { IsWalk flat.now.symbols flat.now.rules flat.now.shapes written.now draft.old at }
     requires placed { IsPlaced written.now draft.old.flat draft.old.node_of }
-    requires list { HasForm flat.now.symbols flat.now.rules flat.now.shapes written.now (λ shape. (shape.list ≡ true) × AreCellRules flat.now.rules (cell_of flat.now.symbols flat.now.rules shape) cells.now) at.node }
+    requires list { HasForm flat.now.symbols flat.now.rules flat.now.shapes written.now (λ shape. (shape.list ≡ true) × AreCellRules flat.now.rules (cell_of flat.now.rules shape) cells.now) at.node }
     requires next { n ≡ length draft.old.flat_of }
     requires child { parent_of written.now n ≡ Some at.node }
     ensures attached { IfOk result (λ f. IsAttached flat.now.symbols flat.now.rules flat.now.shapes written.now draft.old.flat draft.old.node_of draft.old.flat_of draft.new.flat draft.new.node_of at.node n f) }

@@ -16,6 +16,6 @@ invariant-loop-k l = record {
   same : l.draft.flat_of ≡ l.initial.draft.flat_of;
   few : places l.draft.flat l.at.tail ≤ l.k;
   items : (symbols : List FlatSymbol) (rules : List FlatRule) (shapes : List Shape)
-      → AreItems symbols rules shapes l.written l.initial.draft.flat l.initial.draft.node_of (items_of l.initial.draft.flat l.at.tail) (take l.at.done (items_of l.written l.at.node))
-      → AreItems symbols rules shapes l.written l.draft.flat l.draft.node_of (items_of l.draft.flat l.at.tail) (take l.k (items_of l.written l.at.node));
+      → AreItems rules shapes l.initial.draft.flat l.initial.draft.node_of (items_of l.initial.draft.flat l.at.tail) (take l.at.done (items_of l.written l.at.node))
+      → AreItems rules shapes l.draft.flat l.draft.node_of (items_of l.draft.flat l.at.tail) (take l.k (items_of l.written l.at.node));
 }

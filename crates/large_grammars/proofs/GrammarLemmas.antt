@@ -215,7 +215,7 @@ module _ (size : Size) (within : IsWithin size) (symbols : List FlatSymbol) (are
         let m = within.occurrences in omega arith
 
   module _ (rules : List FlatRule) (are_rules : AreRules size rules) (shapes : List Shape) (are_shapes : AreShapes size shapes) where
-    right-is : (k : ℕ) (s : Shape) → slice_get shapes k ≡ Some s → s.right ≡ right_side symbols rules s
+    right-is : (k : ℕ) (s : Shape) → slice_get shapes k ≡ Some s → s.right ≡ right_side rules s
     right-is k s e =
         let a = are_shapes.each k s e in
         let l = below-length shapes k s e in
@@ -224,8 +224,8 @@ module _ (size : Size) (within : IsWithin size) (symbols : List FlatSymbol) (are
         let at : slice_get rules s.rule.0 ≡ Some got.0 = ap (λ (i : ℕ). slice_get rules i) a.rule ∙ got.1 in
         subst (λ (o : Option FlatRule). s.right ≡ elim o [ None ↦ [] | Some r ↦ r.right ]) (sym at) (a.right ∙ sym (are_rules.each k got.0 got.1).right)
 
-    no-cell : (r : FlatRule) → not (list_any (λ (shape : Shape). shape.list && is_same_symbol r.left (cell_of symbols rules shape)) shapes) ≡ true
-    no-cell r = ap (λ (b : Bool). not b) (none-any (λ (shape : Shape). shape.list && is_same_symbol r.left (cell_of symbols rules shape)) shapes (λ k s e. ap (λ (b : Bool). b && is_same_symbol r.left (cell_of symbols rules s)) (are_shapes.each k s e).plain))
+    no-cell : (r : FlatRule) → not (list_any (λ (shape : Shape). shape.list && is_same_symbol r.left (cell_of rules shape)) shapes) ≡ true
+    no-cell r = ap (λ (b : Bool). not b) (none-any (λ (shape : Shape). shape.list && is_same_symbol r.left (cell_of rules shape)) shapes (λ k s e. ap (λ (b : Bool). b && is_same_symbol r.left (cell_of rules s)) (are_shapes.each k s e).plain))
 
     pub well-formed : (root : SymId) → root.0 < size.symbols → IsWellFormed symbols rules shapes root
     well-formed root below = record {
@@ -236,13 +236,13 @@ module _ (size : Size) (within : IsWithin size) (symbols : List FlatSymbol) (are
           let p = ((are.each n x g).attributes.each i a e).0 in let q = ((are.each n x g).attributes.each k b f).0 in let c = ap (λ (m : StrId). m.0) s in omega arith));
       rule_names = pairs-each (λ (x y : FlatRule). x.name ≡ y.name → ⊥) rules (λ i k x y e f l s. let a = (are_rules.each i x e).name in let b = (are_rules.each k y f).name in let c = ap (λ (n : StrId). n.0) s in omega arith);
       each_rule = all-each (IsRule symbols) rules (λ k r e. rule-is r k (are_rules.each k r e));
-      each_list = all-each (λ (shape : Shape). IsTrue shape.list → IsListShape symbols rules shape (cell_of symbols rules shape)) shapes (λ k s e h. absurd (true≢false (sym h ∙ (are_shapes.each k s e).plain)));
-      each_plain = all-each (λ (shape : Shape). shape.list ≡ false → shape.right ≡ right_side symbols rules shape) shapes (λ k s e h. right-is k s e);
-      each_shape = positions-all (λ r. not (list_any (λ (shape : Shape). shape.list && is_same_symbol r.left (cell_of symbols rules shape)) shapes)) no-cell 0 rules shapes (let m = are_shapes.all in let n = are_rules.all in omega arith)
+      each_list = all-each (λ (shape : Shape). IsTrue shape.list → IsListShape symbols rules shape (cell_of rules shape)) shapes (λ k s e h. absurd (true≢false (sym h ∙ (are_shapes.each k s e).plain)));
+      each_plain = all-each (λ (shape : Shape). shape.list ≡ false → shape.right ≡ right_side rules shape) shapes (λ k s e h. right-is k s e);
+      each_shape = positions-all (λ r. not (list_any (λ (shape : Shape). shape.list && is_same_symbol r.left (cell_of rules shape)) shapes)) no-cell 0 rules shapes (let m = are_shapes.all in let n = are_rules.all in omega arith)
           (λ k s e. let a = (are_shapes.each k s e).rule in omega arith);
       numbered_symbols = (let a = are.all in let b = within.symbols in omega arith);
       numbered_rules = (let a = are_rules.all in let b = within.rules in omega arith);
       numbered_occurrences = all-each (λ (r : FlatRule). length r.right < 2 ^ 16) rules (λ k r e. let a = right-count r k (are_rules.each k r e) in let b = within.children in omega arith);
-      few_attributes = all-each (λ (x : FlatSymbol). length x.attrs ≤ 128) symbols (λ k x e. let a = (are.each k x e).attributes.all in let b = within.attributes in omega arith);
+      few_attributes = all-each (λ (x : FlatSymbol). length x.attrs ≤ 256) symbols (λ k x e. let a = (are.each k x e).attributes.all in let b = within.attributes in omega arith);
       few_occurrences = all-each (λ (r : FlatRule). sum_by (λ s. length (attrs_of symbols s)) (symbols_of r) ≤ 1024) rules (λ k r e. few r k (are_rules.each k r e));
     }

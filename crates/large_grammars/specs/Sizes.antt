@@ -20,7 +20,7 @@ EachAt {X} P xs = (k : ℕ) (x : X) → slice_get xs k ≡ Some x → P k x
 pub record IsWithin (size : Size) : Type 0 where
   pub some : 0 < size.symbols
   pub symbols : size.symbols ≤ 2 ^ 16
-  pub attributes : size.attributes ≤ 128
+  pub attributes : size.attributes ≤ 256
   pub rules : size.rules ≤ 2 ^ 16
   pub child : 0 < size.children
   pub children : size.children < 2 ^ 16

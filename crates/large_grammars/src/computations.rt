@@ -53,6 +53,25 @@ fn late_source(size: Size, k: usize, a: usize) -> Occ
     occurrence(0, a.saturating_sub(1))
 }
 
+/// What a computation reads where values are handed to the next attribute of their kind.
+fn next_source(size: Size, is_first: bool, k: usize, a: usize) -> Occ
+    requires size { IsWithin size }
+    requires attribute { a < size.attributes }
+    ensures { IsInside size result }
+{
+    let pairs = size.attributes / 2;
+    if pairs < 2 || (is_first && k == 0 && a == 1) {
+        return occurrence(0, 0);
+    }
+    if k > 0 {
+        return occurrence(0, 2 * ((a / 2 + pairs - 1) % pairs));
+    }
+    if a / 2 + 1 >= pairs {
+        return occurrence(1, a);
+    }
+    occurrence(1, 2 * ((a / 2 + pairs - 2) % (pairs - 1)) + 1)
+}
+
 /// What a computation reads.
 fn source(size: Size, flow: Flow, is_last: bool, k: usize, a: usize) -> Occ
     requires size { IsWithin size }
@@ -62,6 +81,9 @@ fn source(size: Size, flow: Flow, is_last: bool, k: usize, a: usize) -> Occ
 {
     if flow == Flow::Late {
         return late_source(size, k, a);
+    }
+    if flow == Flow::Rotated {
+        return next_source(size, is_last, k, a);
     }
     if k > 0 {
         if flow == Flow::Straight || a == 0 {

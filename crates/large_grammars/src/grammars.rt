@@ -10,7 +10,7 @@ use std::alloc::{AllocError, Global};
 
 /// The attributes of a symbol.
 fn attributes(alloc: Global, count: usize) -> Result<List<FlatAttr>, AllocError>
-    requires { count ≤ 128 }
+    requires { count ≤ 256 }
     ensures { IfOk result (λ attrs. AreAttributes count attrs) }
 {
     let mut attrs = List::new(alloc);
@@ -20,6 +20,7 @@ fn attributes(alloc: Global, count: usize) -> Result<List<FlatAttr>, AllocError>
             kind: kind_of(a),
             ty: ValueType::Int,
             written: true,
+            message: false,
         })?;
     }
     Ok(attrs)
@@ -78,7 +79,8 @@ fn rule(alloc: Global, size: Size, flow: Flow, j: usize) -> Result<FlatRule, All
     let left = j % size.symbols;
     let child = child_of(size, left);
     let right = children(alloc, size.children, child)?;
-    let comps = computations(alloc, size, flow, child.0 as usize == left)?;
+    let is_last = child.0 as usize == left && (flow != Flow::Rotated || size.symbols <= j);
+    let comps = computations(alloc, size, flow, is_last)?;
     Ok(FlatRule {
         name: StrId(j as u32),
         left: SymId(left as u16),

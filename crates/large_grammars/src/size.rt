@@ -5,7 +5,7 @@
 pub struct Size {
     /// How many symbols it has, one at least.
     pub symbols: usize,
-    /// How many attributes each symbol has.
+    /// How many attributes each symbol has, 256 at most.
     pub attributes: usize,
     /// How many rules it has. They take turns through the symbols.
     pub rules: usize,
@@ -15,7 +15,7 @@ pub struct Size {
     pub bottom_up: bool,
 }
 
-/// What the attributes depend on.
+/// What the attributes depend on. Even ones are inherited, odd ones synthesized.
 #[derive(Clone, Copy, Debug, PartialEq, Eq)]
 pub enum Flow {
     /// Each is a copy of its neighbour's attribute of the same number: all values go down, and then up.
@@ -27,4 +27,9 @@ pub enum Flow {
     /// Each synthesized attribute of a left side is a copy of the inherited one before it, and all that children inherit waits for
     /// the left side's last attribute.
     Late,
+    /// Inherited attributes are copied to the children's next one, the last to the first, and synthesized ones to the left side's
+    /// next one, the last but one to the first. Where a symbol is its own child, one more rule copies its first inherited attribute
+    /// to its first synthesized one, if there are twice as many rules as symbols. So the induced dependencies of that symbol grow by
+    /// one pair at a time: with n inherited and n synthesized attributes by n * (n - 1) pairs, one after the other.
+    Rotated,
 }

@@ -95,21 +95,21 @@ module _ (texts : List (List ℕ)) (patterns : List Pattern) (fails : BadKind �
       by false = inl (bad TextTooLong)
 
   -- arguments of the row's types give a value of its type
-  abbrev Keeps : Op → Signature → Type 0
-  Keeps o row = (vs : List Plain) → HaveTypes row.args vs → IsOfType row.gives (applied texts patterns fails o vs)
+  abbrev KeepsType : Op → Signature → Type 0
+  KeepsType o row = (vs : List Plain) → HaveTypes row.args vs → IsOfType row.gives (applied texts patterns fails o vs)
 
-  none : (o : Op) (gives : ValueType) → IsOfType gives (applied texts patterns fails o []) → Keeps o (of_types [] gives)
+  none : (o : Op) (gives : ValueType) → IsOfType gives (applied texts patterns fails o []) → KeepsType o (of_types [] gives)
   none o gives is [] h = is
   none o gives is (v ∷ vs) h = absurd h
 
   one : {A : Type 0} (o : Op) (t gives : ValueType) (f : A → Plain) → ((v : Plain) → type_of v ≡ Some t → (a : A) × (v ≡ f a))
-      → ((a : A) → IsOfType gives (applied texts patterns fails o (f a ∷ []))) → Keeps o (of_types (t ∷ []) gives)
+      → ((a : A) → IsOfType gives (applied texts patterns fails o (f a ∷ []))) → KeepsType o (of_types (t ∷ []) gives)
   one o t gives f seen is [] h = absurd h
   one o t gives f seen is (v ∷ []) h = let (a, e) = seen v h.0 in subst (λ u. IsOfType gives (applied texts patterns fails o (u ∷ []))) (sym e) (is a)
   one o t gives f seen is (v ∷ w ∷ vs) h = absurd h.1
 
   two : {A : Type 0} (o : Op) (t gives : ValueType) (f : A → Plain) → ((v : Plain) → type_of v ≡ Some t → (a : A) × (v ≡ f a))
-      → ((a b : A) → IsOfType gives (applied texts patterns fails o (f a ∷ f b ∷ []))) → Keeps o (of_types (t ∷ t ∷ []) gives)
+      → ((a b : A) → IsOfType gives (applied texts patterns fails o (f a ∷ f b ∷ []))) → KeepsType o (of_types (t ∷ t ∷ []) gives)
   two o t gives f seen is [] h = absurd h
   two o t gives f seen is (v ∷ []) h = absurd h.1
   two o t gives f seen is (v ∷ w ∷ []) h =
@@ -118,40 +118,40 @@ module _ (texts : List (List ℕ)) (patterns : List Pattern) (fails : BadKind �
       subst (λ u. IsOfType gives (applied texts patterns fails o (u ∷ w ∷ []))) (sym e) (subst (λ u. IsOfType gives (applied texts patterns fails o (f a ∷ u ∷ []))) (sym g) (is a b))
   two o t gives f seen is (v ∷ w ∷ x ∷ vs) h = absurd h.1.1
 
-  one_row : (o : Op) (only row : Signature) → Keeps o only → Contains (only ∷ []) row → Keeps o row
-  one_row o only row keeps m = in-one (Keeps o) only row keeps m
+  one_row : (o : Op) (only row : Signature) → KeepsType o only → Contains (only ∷ []) row → KeepsType o row
+  one_row o only row keeps m = in-one (KeepsType o) only row keeps m
 
   abbrev ints : Op → ValueType → Type 0
   ints o gives = (x y : ℤ) → IsOfType gives (applied texts patterns fails o (plain.Int x ∷ plain.Int y ∷ []))
 
-  two_ints : (o : Op) (gives : ValueType) (row : Signature) → ints o gives → Contains (of_types (Int ∷ Int ∷ []) gives ∷ []) row → Keeps o row
+  two_ints : (o : Op) (gives : ValueType) (row : Signature) → ints o gives → Contains (of_types (Int ∷ Int ∷ []) gives ∷ []) row → KeepsType o row
   two_ints o gives row is m = one_row o (of_types (Int ∷ Int ∷ []) gives) row (two o Int gives (λ z. plain.Int z) is_int is) m
 
-  two_truths : (o : Op) (row : Signature) → ((x y : Bool) → IsOfType Truth (applied texts patterns fails o (plain.Truth x ∷ plain.Truth y ∷ []))) → Contains (of_types (Truth ∷ Truth ∷ []) Truth ∷ []) row → Keeps o row
+  two_truths : (o : Op) (row : Signature) → ((x y : Bool) → IsOfType Truth (applied texts patterns fails o (plain.Truth x ∷ plain.Truth y ∷ []))) → Contains (of_types (Truth ∷ Truth ∷ []) Truth ∷ []) row → KeepsType o row
   two_truths o row is m = one_row o (of_types (Truth ∷ Truth ∷ []) Truth) row (two o Truth Truth (λ b. plain.Truth b) is_truth is) m
 
   -- ints, strings and truths are compared
   compared : (o : Op) (row : Signature) → ints o Truth → ((x y : List ℕ) → IsOfType Truth (applied texts patterns fails o (plain.Str x ∷ plain.Str y ∷ [])))
-      → ((x y : Bool) → IsOfType Truth (applied texts patterns fails o (plain.Truth x ∷ plain.Truth y ∷ []))) → Contains (two_alike (Int ∷ Str ∷ Truth ∷ [])) row → Keeps o row
+      → ((x y : Bool) → IsOfType Truth (applied texts patterns fails o (plain.Truth x ∷ plain.Truth y ∷ []))) → Contains (two_alike (Int ∷ Str ∷ Truth ∷ [])) row → KeepsType o row
   compared o row of_ints of_strs of_truths m =
-      in-cons (Keeps o) (of_types (Int ∷ Int ∷ []) Truth) row (two_alike (Str ∷ Truth ∷ [])) (two o Int Truth (λ z. plain.Int z) is_int of_ints)
-      (λ k. in-cons (Keeps o) (of_types (Str ∷ Str ∷ []) Truth) row (two_alike (Truth ∷ [])) (two o Str Truth (λ s. plain.Str s) is_str of_strs) (λ l. two_truths o row of_truths l) k) m
+      in-cons (KeepsType o) (of_types (Int ∷ Int ∷ []) Truth) row (two_alike (Str ∷ Truth ∷ [])) (two o Int Truth (λ z. plain.Int z) is_int of_ints)
+      (λ k. in-cons (KeepsType o) (of_types (Str ∷ Str ∷ []) Truth) row (two_alike (Truth ∷ [])) (two o Str Truth (λ s. plain.Str s) is_str of_strs) (λ l. two_truths o row of_truths l) k) m
 
-  identical : (ty : ValueType) → Keeps op.Identical (of_types (ty ∷ []) ty)
+  identical : (ty : ValueType) → KeepsType op.Identical (of_types (ty ∷ []) ty)
   identical ty [] h = absurd h
   identical ty (v ∷ []) h = inr h.0
   identical ty (v ∷ w ∷ vs) h = absurd h.1
 
-  to_one : (ty : ValueType) → Keeps op.ArgToOne (of_types (ty ∷ []) Int)
+  to_one : (ty : ValueType) → KeepsType op.ArgToOne (of_types (ty ∷ []) Int)
   to_one ty [] h = absurd h
   to_one ty (v ∷ []) h = inr refl
   to_one ty (v ∷ w ∷ vs) h = absurd h.1
 
-  pattern_row : (k : ℕ) (row : Signature) (o : Option Pattern) → Contains (elim o [ None ↦ [] | Some pattern ↦ of_types pattern.args Text ∷ [] ]) row → Keeps (op.Pattern k) row
+  pattern_row : (k : ℕ) (row : Signature) (o : Option Pattern) → Contains (elim o [ None ↦ [] | Some pattern ↦ of_types pattern.args Text ∷ [] ]) row → KeepsType (op.Pattern k) row
   pattern_row k row None m = absurd (contains-nil row m)
-  pattern_row k row (Some pattern) m = in-one (Keeps (op.Pattern k)) (of_types pattern.args Text) row (λ vs h. text-type (pattern_bytes texts patterns k vs)) m
+  pattern_row k row (Some pattern) m = in-one (KeepsType (op.Pattern k)) (of_types pattern.args Text) row (λ vs h. text-type (pattern_bytes texts patterns k vs)) m
 
-  keeps : (o : Op) (row : Signature) → Contains (signatures patterns o) row → Keeps o row
+  keeps : (o : Op) (row : Signature) → Contains (signatures patterns o) row → KeepsType o row
   keeps op.Add row m = two_ints op.Add Int row (λ x y. int-type (x +ℤ y)) m
   keeps op.Sub row m = two_ints op.Sub Int row (λ x y. int-type (x -ℤ y)) m
   keeps op.Mul row m = two_ints op.Mul Int row (λ x y. int-type (x *ℤ y)) m
@@ -167,10 +167,10 @@ module _ (texts : List (List ℕ)) (patterns : List Pattern) (fails : BadKind �
   keeps op.Le row m = two_ints op.Le Truth row (λ x y. inr refl) m
   keeps op.Gt row m = two_ints op.Gt Truth row (λ x y. inr refl) m
   keeps op.Ge row m = two_ints op.Ge Truth row (λ x y. inr refl) m
-  keeps op.Identical row m = in-map (Keeps op.Identical) (λ ty. of_types (ty ∷ []) ty) all_types row identical m
+  keeps op.Identical row m = in-map (KeepsType op.Identical) (λ ty. of_types (ty ∷ []) ty) all_types row identical m
   keeps op.Zero row m = one_row op.Zero (of_types [] Int) row (none op.Zero Int (inr refl)) m
   keeps op.One row m = one_row op.One (of_types [] Int) row (none op.One Int (inr refl)) m
-  keeps op.ArgToOne row m = in-map (Keeps op.ArgToOne) (λ ty. of_types (ty ∷ []) Int) all_types row to_one m
+  keeps op.ArgToOne row m = in-map (KeepsType op.ArgToOne) (λ ty. of_types (ty ∷ []) Int) all_types row to_one m
   keeps op.Null row m = one_row op.Null (of_types [] Text) row (none op.Null Text (inr refl)) m
   keeps op.Numb row m = one_row op.Numb (of_types (Int ∷ []) Text) row (one op.Numb Int Text (λ z. plain.Int z) is_int (λ z. text-type (signed_decimal z))) m
   keeps op.AsIs row m = one_row op.AsIs (of_types (Str ∷ []) Text) row (one op.AsIs Str Text (λ s. plain.Str s) is_str text-type) m

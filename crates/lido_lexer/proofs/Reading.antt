@@ -5,7 +5,7 @@ use Rattle.std.proofs.lemmas.List.Elements.{All-head, All-tail, All-push}
 use Rattle.lido_lexer.specs.Gaps.{IsGap, IsPast, at_once, one_more}
 use Rattle.lido_lexer.specs.Tokens.{IsFront, Word, Str, Literal, shown_kind}
 use Rattle.lido_base.specs.Texts.{Gains}
-use Rattle.lido_lexer.specs.Lexing.{Placed, IsCutInto, up_to_end, up_to, gap_first, token_first, shown_in, placed, HasText, IsInOrder, IsRefusal}
+use Rattle.lido_lexer.specs.Lexing.{Placed, IsCutInto, up_to_end, up_to, gap_first, token_first, shown_in, placed, HasText, IsInOrder, IsRefusedAt}
 use Rattle.lido_lexer.specs.declared.token.Token.{Token}
 use Rattle.lido_lexer.specs.declared.token.TokenKind.{TokenKind}
 use Rattle.lido_lexer.specs.declared.token.TokenKind.TheVariants as kind
@@ -109,9 +109,9 @@ reading_end text texts tokens left before none =
     (before.on [] None (subst (λ (l : List ℕ). IsCutInto (length text) l [] None) (sym none) up_to_end))
 
 pub reading_stuck : (text : List ℕ) (texts : List (List ℕ)) (tokens : List Token) (left : List ℕ) (e : LexFault) (at : ℕ) → IsReading text texts tokens left → left ≢ []
-    → IsRefusal (length text) left e → e ≡ fault.Lexical at → IsCutInto (length text) text (map (shown_in texts) tokens) (Some at)
+    → IsRefusedAt (length text) left e → e ≡ fault.Lexical at → IsCutInto (length text) text (map (shown_in texts) tokens) (Some at)
 reading_stuck text texts tokens left e at before some refusal is =
-    let it : IsRefusal (length text) left (fault.Lexical at) = subst (λ (f : LexFault). IsRefusal (length text) left f) is refusal in
+    let it : IsRefusedAt (length text) left (fault.Lexical at) = subst (λ (f : LexFault). IsRefusedAt (length text) left f) is refusal in
     subst (λ (l : List Placed). IsCutInto (length text) text l (Some at)) (append-nil (map (shown_in texts) tokens))
     (before.on [] (Some at) (subst (λ (n : ℕ). IsCutInto (length text) left [] (Some n)) (sym it.0)
     (up_to (record { more = some; no_gap = before.no_gap; no_token = it.1 }))))

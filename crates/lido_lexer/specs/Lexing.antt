@@ -76,6 +76,6 @@ IsInOrder from to [] = from ≤ to
 IsInOrder from to (token ∷ tokens) = (from ≤ token.from) × (token.from < token.to) × IsInOrder token.to to tokens
 
 -- No token is in front of what is left, and the fault names its place; or memory ran out.
-abbrev pub IsRefusal : ℕ → List ℕ → LexFault → Type 0
-IsRefusal size left (fault.Lexical at) = (at ≡ place size left) × ((shown : Shown) (rest : List ℕ) → IsFront left shown rest → ⊥)
-IsRefusal size left fault.Memory = ⊤
+abbrev pub IsRefusedAt : ℕ → List ℕ → LexFault → Type 0
+IsRefusedAt size left (fault.Lexical at) = (at ≡ place size left) × ((shown : Shown) (rest : List ℕ) → IsFront left shown rest → ⊥)
+IsRefusedAt size left fault.Memory = ⊤

@@ -4,7 +4,7 @@ ghost use Rattle.lido_base.specs.Phases.{Gives};
 ghost use Rattle.lido_base.specs.Texts.{with_text, Gains, interned};
 ghost use Rattle.lido_lexer.specs.Lexemes.{name_shown, said};
 ghost use Rattle.lido_lexer.specs.Tokens.{IsFront, shown_kind};
-ghost use Rattle.lido_lexer.specs.Lexing.{HasText, IsCutInto, IsInOrder, IsRefusal, Lexing, place, placed, shown_in};
+ghost use Rattle.lido_lexer.specs.Lexing.{HasText, IsCutInto, IsInOrder, IsRefusedAt, Lexing, place, placed, shown_in};
 ghost use Rattle.lido_lexer.specs.Tables.{LexedFrom, text_of, texts_in};
 
 use crate::gaps::skip_gaps;
@@ -93,7 +93,7 @@ fn next_token<'a>(
     ensures shorter { IfOk result (λ x. length x.1.now < length left.now) }
     ensures text { IfOk result (λ x. HasText (length strings.new) x.0.what) }
     ensures table { IfOk result (λ x. strings.new ≡ interned strings.old (text_of (shown_kind strings.new x.0.what))) }
-    ensures refusal { IfErr result (λ e. IsRefusal (length text.now) left.now e) }
+    ensures refusal { IfErr result (λ e. IsRefusedAt (length text.now) left.now e) }
     ensures same { IfErr result (λ e. (e ≡ LexFault.Memory) ⊎ (strings.new ≡ strings.old)) }
     ensures kept { Gains strings.old strings.new }
     ensures few { length strings.new ≤ length strings.old + 1 }

@@ -11,8 +11,6 @@ mod look;
 mod numbers;
 mod quoted;
 mod sign;
-#[cfg(test)]
-mod tests;
 mod token;
 mod words;
 

@@ -1,4 +1,4 @@
--- A pattern whose points agree has 64 arguments at most.
+-- A pattern whose points agree has 64 arguments at most, and its parts insert these alone.
 use Rattle.std.proofs.Common.{◌≡◌, ℕ, ◌+◌, ◌<◌, ◌≤◌, inl, suc, Bool, true, false, not, ◌||◌, ◌&&◌, nat_le, pos, negsuc, ℤ, if◌then◌else◌, List, [], ◌∷◌, ◌++◌, length, filter, map, Option, Some, None, unwrap_or, All, refl, sym, ap, subst, ◌∙◌, arith, append_assoc, IsTrue, Result, Ok, Err, IfOk, OnOk}
 use Rattle.std.specs.List.{list_any}
 use Rattle.std.proofs.lemmas.Bool.Decides.{nat_tests}
@@ -6,6 +6,8 @@ use Rattle.std.proofs.lemmas.List.FromFn.{length-map-range_with_len}
 use Rattle.std.proofs.lemmas.List.Elements.{All-head, All-tail, All-cons, All-push}
 use Rattle.lido_base.specs.declared.value.ValueType.TheVariants as type
 use Rattle.lido_base.specs.declared.pattern.Pattern.{Pattern}
+use Rattle.lido_base.specs.declared.pattern.Part.{Part}
+use Rattle.lido_base.specs.declared.pattern.PartPiece.TheVariants as piece
 use Rattle.lido_lexer.specs.declared.keyword.Keyword.{Keyword}
 use Rattle.lido_lexer.specs.declared.keyword.Keyword.TheVariants as keyword
 use Rattle.lido_lexer.specs.declared.sign.Sign.{Sign}
@@ -24,13 +26,13 @@ use Rattle.ptg_patterns.specs.declared.written.Written.{Written}
 use Rattle.ptg_patterns.specs.Marks.{is_numbered, key_mark, number_mark, sign_mark, mark_of, marks, marks_up_to}
 use Rattle.ptg_patterns.specs.Language.{type_in_front, behind_type, is_bare, IsItems, end, text, bare, numbered, opened, closed, IsWritten, none, pattern}
 use Rattle.ptg_patterns.specs.First.{HasNoClash}
-use Rattle.ptg_patterns.specs.Meaning.{points, arguments, greatest, first_type, argument_types, pattern_of}
+use Rattle.ptg_patterns.specs.Meaning.{points, arguments, greatest, first_type, argument_types, parts, pattern_of, InsertsOneOf, HasItsArguments}
 use Rattle.ptg_patterns.specs.Clashes.{has_number, has_no_number, has_other_form, IsMixed}
 
--- a number is 64 at most
+-- a number is 1 at least and 64 at most
 abbrev pub IsSmall : Option ℕ → Type 0
 IsSmall None = Unit {0}
-IsSmall (Some n) = n ≤ 64
+IsSmall (Some n) = (1 ≤ n) × (n ≤ 64)
 
 -- ---- points that agree
 
@@ -67,7 +69,7 @@ numbered_step : (first q : PointOf) (m : ℕ) (front rest : List PointOf) (k : �
 numbered_step first q m front rest k is agree small later None e = absurd (agree (first ∷ front) q rest refl (numbered_clash first q front m is e))
 numbered_step first q m front rest k is agree small later (Some n) e =
     let number : unwrap_or q.number k ≡ n = ap (λ (o : Option ℕ). unwrap_or o k) e in
-    let few : n ≤ 64 = subst IsSmall e small in
+    let few : n ≤ 64 = (subst IsSmall e small).1 in
     omega (arith, number, few, later)
 
 -- from a point with a number on all have one
@@ -91,7 +93,7 @@ agreeing_step p rest agree small few None e =
 agreeing_step p rest agree small few (Some n) e =
     let P : PointOf → Type 0 = λ q. IsSmall q.number in
     let number : unwrap_or p.number 1 ≡ n = ap (λ (o : Option ℕ). unwrap_or o 1) e in
-    let own : n ≤ 64 = subst IsSmall e (All-head P p rest small) in
+    let own : n ≤ 64 = (subst IsSmall e (All-head P p rest small)).1 in
     let later = numbered_counts p n [] rest 2 e agree (All-tail P p rest small) in
     omega (arith, number, own, later)
 
@@ -130,7 +132,7 @@ few_arguments items agree few =
 -- ---- marks
 
 abbrev pub HasSmall : Mark → Type 0
-HasSmall (mark.Number n) = n ≤ 64
+HasSmall (mark.Number n) = (1 ≤ n) × (n ≤ 64)
 HasSmall _ = Unit {0}
 
 key_small : (k : Keyword) → HasSmall (key_mark k)
@@ -142,7 +144,7 @@ number_small : (z : ℤ) → HasSmall (number_mark z)
 number_small (pos k) = by (nat_le 1 k && nat_le k 64) refl
   where
     by : (b : Bool) → (nat_le 1 k && nat_le k 64) ≡ b → HasSmall (if b then mark.Number k else mark.Misfit)
-    by true e = grind (arith, nat_tests, e)
+    by true e = let low : 1 ≤ k = grind (arith, nat_tests, e) in let high : k ≤ 64 = grind (arith, nat_tests, e) in (low, high)
     by false e = tt
 number_small (negsuc k) = tt
 
@@ -215,6 +217,47 @@ pub few_found : {X : Type 0} (view : X → List Pattern) (r : Result X PtgFault)
     → IfOk r (λ found. All (λ (p : Pattern). length p.args ≤ 64) (view found))
 few_found view (Ok found) all is agree few = subst (All (λ (p : Pattern). length p.args ≤ 64)) (sym is) (few_of_each all agree few)
 few_found view (Err e) all is agree few = tt
+
+-- ---- parts
+
+at_least_one : (o : Option ℕ) (k : ℕ) → 1 ≤ k → IsSmall o → 1 ≤ unwrap_or o k
+at_least_one None k least small = least
+at_least_one (Some n) k least small = small.0
+
+-- parts insert arguments up to the greatest of their numbers
+parts_within : (count : ℕ) (items : List Item) (k : ℕ) → 1 ≤ k → All (λ (p : PointOf). IsSmall p.number) (points items) → greatest (arguments k (points items)) ≤ count
+    → All (λ (part : Part). InsertsOneOf count part.piece) (parts k items)
+parts_within count [] k least small most = λ i d less. absurd (omega (arith, less))
+parts_within count (item ∷ items) k least small most = by item.content item.brace small most (parts_within count items k least) (parts_within count items (suc k) (omega arith))
+  where
+    by : (content : Content) (brace : Bool) → All (λ (p : PointOf). IsSmall p.number) (points (record { content = content; brace = brace } ∷ items))
+        → greatest (arguments k (points (record { content = content; brace = brace } ∷ items))) ≤ count
+        → (All (λ (p : PointOf). IsSmall p.number) (points items) → greatest (arguments k (points items)) ≤ count → All (λ (part : Part). InsertsOneOf count part.piece) (parts k items))
+        → (All (λ (p : PointOf). IsSmall p.number) (points items) → greatest (arguments (suc k) (points items)) ≤ count → All (λ (part : Part). InsertsOneOf count part.piece) (parts (suc k) items))
+        → All (λ (part : Part). InsertsOneOf count part.piece) (parts k (record { content = content; brace = brace } ∷ items))
+    by (Text id) brace small most same next = All-cons (λ (part : Part). InsertsOneOf count part.piece) (record { piece = piece.Fixed id; brace = brace }) (parts k items) tt (same small most)
+    by (Point p) brace small most same next =
+        let here = at_least_one p.number k least (All-head (λ (q : PointOf). IsSmall q.number) p (points items) small) in
+        let later = next (All-tail (λ (q : PointOf). IsSmall q.number) p (points items) small) (omega (arith, most)) in
+        All-cons (λ (part : Part). InsertsOneOf count part.piece) (record { piece = piece.Arg (unwrap_or p.number k); brace = brace }) (parts (suc k) items) (here, (omega (arith, most))) later
+
+-- a pattern's parts insert its own arguments
+pattern_parts : (w : Written) → AreFew w.items → HasItsArguments (pattern_of w)
+pattern_parts w few =
+    let all = arguments 1 (points w.items) in
+    parts_within (length (argument_types all)) w.items 1 (omega arith) few.small
+    (let count = length-map-range_with_len (λ (j : ℕ). unwrap_or (first_type j all) type.Text) 1 (greatest all) in omega (arith, count))
+
+parts_of_each : (all : List Written) → All (λ (w : Written). AreFew w.items) all → All HasItsArguments (map pattern_of all)
+parts_of_each [] few = λ k d less. absurd (omega (arith, less))
+parts_of_each (w ∷ all) few =
+    let F : Written → Type 0 = λ v. AreFew v.items in
+    All-cons HasItsArguments (pattern_of w) (map pattern_of all) (pattern_parts w (All-head F w all few)) (parts_of_each all (All-tail F w all few))
+
+pub parts_found : {X : Type 0} (view : X → List Pattern) (r : Result X PtgFault) (all : List Written) → IfOk r (λ found. view found ≡ map pattern_of all)
+    → All (λ (w : Written). AreFew w.items) all → IfOk r (λ found. All HasItsArguments (view found))
+parts_found view (Ok found) all is few = subst (All HasItsArguments) (sym is) (parts_of_each all few)
+parts_found view (Err e) all is few = tt
 
 -- ---- names
 

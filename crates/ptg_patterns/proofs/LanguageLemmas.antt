@@ -31,26 +31,26 @@ Rest (Numbering brace k) marks = (n : ℕ) × (us : List Mark) × (marks ≡ mar
 Rest (Pointed brace k) marks = GoesOn brace k (behind_type marks)
 
 -- the state is this one, and that may come behind it
-abbrev Then : Option State → List Mark → Type 0
-Then None marks = ⊥
-Then (Some state) marks = Rest state marks
+abbrev RestAfter : Option State → List Mark → Type 0
+RestAfter None marks = ⊥
+RestAfter (Some state) marks = Rest state marks
 
 less_of : (k c : ℕ) → k + suc c ≤ 64 → nat_lt k 64 ≡ true
 less_of k c few = grind (arith, few)
 
 -- ---- a mark that comes next fits
 
-name_forward : (k : ℕ) (m : Mark) (vs : List Mark) (patterns : List Written) → IsWritten (m ∷ vs) patterns → Then (item_step false k m) vs
+name_forward : (k : ℕ) (m : Mark) (vs : List Mark) (patterns : List Written) → IsWritten (m ∷ vs) patterns → RestAfter (item_step false k m) vs
 name_forward k m vs patterns (pattern {marks = us} {rest = rest} {items = items} {patterns = more} reads few written) =
     (us, refl, record { items = items; rest = rest; patterns = more; reads = reads; few = omega (arith, few); written = written })
 
 item_forward : (brace : Bool) (k : ℕ) (m : Mark) (vs : List Mark) (items : List Item) (rest : List Mark) (patterns : List Written)
-    → IsItems brace (m ∷ vs) items rest → k + length (filter is_bare items) ≤ 64 → IsWritten rest patterns → Then (item_step brace k m) vs
+    → IsItems brace (m ∷ vs) items rest → k + length (filter is_bare items) ≤ 64 → IsWritten rest patterns → RestAfter (item_step brace k m) vs
 item_forward brace k m vs items rest patterns end few written = name_forward k m vs patterns written
 item_forward brace k m vs items rest patterns (text {items = more} reads) few written =
     record { items = more; rest = rest; patterns = patterns; reads = reads; few = omega (arith, few); written = written }
 item_forward brace k m vs items rest patterns (bare {items = more} reads) few written =
-    subst (λ (t : Bool). Then (if t then Some (Pointed brace (k + 1)) else None) vs) (sym (less_of k (length (filter is_bare more)) few))
+    subst (λ (t : Bool). RestAfter (if t then Some (Pointed brace (k + 1)) else None) vs) (sym (less_of k (length (filter is_bare more)) few))
     (record { items = more; rest = rest; patterns = patterns; reads = reads; few = omega (arith, few); written = written })
 item_forward brace k m vs items rest patterns (numbered {number = n} {marks = us} {items = more} reads) few written =
     (n, us, refl, record { items = more; rest = rest; patterns = patterns; reads = reads; few = omega (arith, few); written = written })
@@ -59,27 +59,27 @@ item_forward brace k m vs items rest patterns (opened reads) few written =
 item_forward brace k m vs items rest patterns (closed reads) few written =
     record { items = items; rest = rest; patterns = patterns; reads = reads; few = few; written = written }
 
-goes_forward : (brace : Bool) (k : ℕ) (m : Mark) (vs : List Mark) → GoesOn brace k (m ∷ vs) → Then (item_step brace k m) vs
+goes_forward : (brace : Bool) (k : ℕ) (m : Mark) (vs : List Mark) → GoesOn brace k (m ∷ vs) → RestAfter (item_step brace k m) vs
 goes_forward brace k m vs g = item_forward brace k m vs g.items g.rest g.patterns g.reads g.few g.written
 
-pointed_forward : (brace : Bool) (k : ℕ) (m : Mark) (vs : List Mark) → GoesOn brace k (behind_type (m ∷ vs)) → Then (step (Pointed brace k) m) vs
+pointed_forward : (brace : Bool) (k : ℕ) (m : Mark) (vs : List Mark) → GoesOn brace k (behind_type (m ∷ vs)) → RestAfter (step (Pointed brace k) m) vs
 pointed_forward brace k mark.IntWord vs g = g
 pointed_forward brace k mark.StringWord vs g = g
 pointed_forward brace k m vs g = goes_forward brace k m vs g
 
-named_forward : (m : Mark) (vs us : List Mark) → m ∷ vs ≡ mark.Colon ∷ us → GoesOn false 0 us → Then (step Named m) vs
+named_forward : (m : Mark) (vs us : List Mark) → m ∷ vs ≡ mark.Colon ∷ us → GoesOn false 0 us → RestAfter (step Named m) vs
 named_forward mark.Colon vs us e g = let same : us ≡ vs = cc in subst (GoesOn false 0) same g
 named_forward m vs us e g = cc
 
-numbering_forward : (brace : Bool) (k n : ℕ) (m : Mark) (vs us : List Mark) → m ∷ vs ≡ mark.Number n ∷ us → GoesOn brace k (behind_type us) → Then (step (Numbering brace k) m) vs
+numbering_forward : (brace : Bool) (k n : ℕ) (m : Mark) (vs us : List Mark) → m ∷ vs ≡ mark.Number n ∷ us → GoesOn brace k (behind_type us) → RestAfter (step (Numbering brace k) m) vs
 numbering_forward brace k n (mark.Number i) vs us e g = let same : us ≡ vs = cc in subst (λ (l : List Mark). GoesOn brace k (behind_type l)) same g
 numbering_forward brace k n m vs us e g = cc
 
-start_forward : (m : Mark) (vs : List Mark) (patterns : List Written) → IsWritten (m ∷ vs) patterns → Then (step Start m) vs
+start_forward : (m : Mark) (vs : List Mark) (patterns : List Written) → IsWritten (m ∷ vs) patterns → RestAfter (step Start m) vs
 start_forward m vs patterns (pattern {marks = us} {rest = rest} {items = items} {patterns = more} reads few written) =
     (us, refl, record { items = items; rest = rest; patterns = more; reads = reads; few = omega (arith, few); written = written })
 
-forward : (state : State) (m : Mark) (vs : List Mark) → Rest state (m ∷ vs) → Then (step state m) vs
+forward : (state : State) (m : Mark) (vs : List Mark) → Rest state (m ∷ vs) → RestAfter (step state m) vs
 forward Start m vs r = start_forward m vs r.0 r.1
 forward Named m vs r = named_forward m vs r.0 r.1 r.2
 forward (Items brace k) m vs r = goes_forward brace k m vs r
@@ -99,11 +99,11 @@ name_back : (at : ℕ) (id : _) (vs us : List Mark) → vs ≡ mark.Colon ∷ us
 name_back at id vs us e g = subst (λ (l : List Mark). IsText (mark.Name at id ∷ l)) (sym e)
     (record { at = at; name = id; items = g.items } ∷ g.patterns, pattern g.reads (omega (arith, g.few)) g.written)
 
-bare_back : (brace : Bool) (k at : ℕ) (vs : List Mark) (t : Bool) → Then (if t then Some (Pointed brace (k + 1)) else None) vs → GoesOn brace k (mark.Bare at ∷ vs)
+bare_back : (brace : Bool) (k at : ℕ) (vs : List Mark) (t : Bool) → RestAfter (if t then Some (Pointed brace (k + 1)) else None) vs → GoesOn brace k (mark.Bare at ∷ vs)
 bare_back brace k at vs false g = absurd g
 bare_back brace k at vs true g = record { items = _; rest = g.rest; patterns = g.patterns; reads = bare g.reads; few = omega (arith, g.few); written = g.written }
 
-item_back : (brace : Bool) (k : ℕ) (m : Mark) (vs : List Mark) → k ≤ 64 → Then (item_step brace k m) vs → GoesOn brace k (m ∷ vs)
+item_back : (brace : Bool) (k : ℕ) (m : Mark) (vs : List Mark) → k ≤ 64 → RestAfter (item_step brace k m) vs → GoesOn brace k (m ∷ vs)
 item_back false k (mark.Name at id) vs few r = let t = name_back at id vs r.0 r.1 r.2 in
     record { items = []; rest = mark.Name at id ∷ vs; patterns = t.0; reads = end; few = omega (arith, few); written = t.1 }
 item_back brace k (mark.Fixed id) vs few g = record { items = _; rest = g.rest; patterns = g.patterns; reads = text g.reads; few = omega (arith, g.few); written = g.written }
@@ -114,12 +114,12 @@ item_back false k mark.BraceOpen vs few g = record { items = g.items; rest = g.r
 item_back true k mark.BraceClose vs few g = record { items = g.items; rest = g.rest; patterns = g.patterns; reads = closed g.reads; few = g.few; written = g.written }
 item_back _ k _ vs few g = absurd g
 
-pointed_back : (brace : Bool) (k : ℕ) (m : Mark) (vs : List Mark) → k ≤ 64 → Then (step (Pointed brace k) m) vs → GoesOn brace k (behind_type (m ∷ vs))
+pointed_back : (brace : Bool) (k : ℕ) (m : Mark) (vs : List Mark) → k ≤ 64 → RestAfter (step (Pointed brace k) m) vs → GoesOn brace k (behind_type (m ∷ vs))
 pointed_back brace k mark.IntWord vs few g = g
 pointed_back brace k mark.StringWord vs few g = g
 pointed_back brace k m vs few g = item_back brace k m vs few g
 
-back : (state : State) (m : Mark) (vs : List Mark) → bare_of state ≤ 64 → Then (step state m) vs → Rest state (m ∷ vs)
+back : (state : State) (m : Mark) (vs : List Mark) → bare_of state ≤ 64 → RestAfter (step state m) vs → Rest state (m ∷ vs)
 back Start (mark.Name at id) vs few (us, e, g) = name_back at id vs us e g
 back Start _ vs few g = absurd g
 back Named mark.Colon vs few g = (vs, refl, g)
@@ -216,8 +216,8 @@ arrives_start = record { on = λ vs r. r; backwards = λ vs t. t; few = omega ar
 
 pub arrives_more : (state next : State) (taken : List Mark) (m : Mark) → Arrives state taken → step state m ≡ Some next → Arrives next (taken ++ m ∷ [])
 arrives_more state next taken m before e = record {
-  on = λ vs r. subst IsText (sym (append_assoc taken (m ∷ []) vs)) (before.on (m ∷ vs) (back state m vs before.few (subst (λ (o : Option State). Then o vs) (sym e) r)));
-  backwards = λ vs t. subst (λ (o : Option State). Then o vs) e (forward state m vs (before.backwards (m ∷ vs) (subst IsText (append_assoc taken (m ∷ []) vs) t)));
+  on = λ vs r. subst IsText (sym (append_assoc taken (m ∷ []) vs)) (before.on (m ∷ vs) (back state m vs before.few (subst (λ (o : Option State). RestAfter o vs) (sym e) r)));
+  backwards = λ vs t. subst (λ (o : Option State). RestAfter o vs) e (forward state m vs (before.backwards (m ∷ vs) (subst IsText (append_assoc taken (m ∷ []) vs) t)));
   few = subst IsFew e (step_few state m before.few);
 }
 
@@ -228,7 +228,7 @@ misfit_stuck : (state : State) (taken rest : List Mark) (m : Mark) → Arrives s
     → (vs : List Mark) → SameHead (m ∷ rest) vs → IsText (taken ++ vs) → ⊥
 misfit_stuck state taken rest m before e [] s t = s
 misfit_stuck state taken rest m before e (v ∷ vs) s t =
-    subst (λ (o : Option State). Then o vs) e (forward state m vs (subst (λ (n : Mark). Rest state (n ∷ vs)) (sym s) (before.backwards (v ∷ vs) t)))
+    subst (λ (o : Option State). RestAfter o vs) e (forward state m vs (subst (λ (n : Mark). Rest state (n ∷ vs)) (sym s) (before.backwards (v ∷ vs) t)))
 
 pub misfit : (state : State) (taken rest : List Mark) (m : Mark) → Arrives state taken → step state m ≡ None
     → IsFaultPlace IsText (taken ++ m ∷ rest) (length taken)

@@ -21,7 +21,7 @@ use Rattle.ptg_patterns.specs.Marks.{marks_up_to}
 use Rattle.ptg_patterns.specs.Language.{IsItems, end, text, bare, numbered, opened, closed, IsWritten, none, pattern, IsText}
 use Rattle.ptg_patterns.specs.Meaning.{points, pattern_of}
 use Rattle.ptg_patterns.specs.Clashes.{IsMixed, IsMixedAt, IsRefused, duplicate, mixed, CantStand, IsClash}
-use Rattle.ptg_patterns.specs.Texts.{AreTokens, Reads, PatternsOf, IsTableBehind, PatternsFrom, place_of}
+use Rattle.ptg_patterns.specs.Texts.{AreTokens, Reads, PatternsOf, IsTableBehind, PatternsFrom, mark_place}
 use Rattle.ptg_patterns.proofs.FrontsLemmas.{item_in_front, head_in_front}
 use Rattle.ptg_patterns.proofs.FirstLemmas.{one_first, no_first}
 
@@ -124,7 +124,7 @@ one_reading texts size tokens stuck (Err e) (Ok b) (inr x) y =
     let clash = subst (λ (l : List Written). IsClash texts l e) same x.2 in
     absurd (no_first (CantStand texts) y.0 clash.0 clash.1 y.2 clash.2)
 one_reading texts size tokens stuck (Err e) (Err f) (inl x) (inl y) =
-    ap Err (y.2 ∙ ap (λ (k : ℕ). PtgSyntax (place_of size tokens stuck k)) (one_place IsText (marks_up_to tokens stuck) y.0 x.0 y.1 x.1) ∙ sym x.2)
+    ap Err (y.2 ∙ ap (λ (k : ℕ). PtgSyntax (mark_place size tokens stuck k)) (one_place IsText (marks_up_to tokens stuck) y.0 x.0 y.1 x.1) ∙ sym x.2)
 one_reading texts size tokens stuck (Err e) (Err f) (inl x) (inr y) = absurd (not_whole IsText (marks_up_to tokens stuck) x.0 x.1 (y.0, y.1))
 one_reading texts size tokens stuck (Err e) (Err f) (inr x) (inl y) = absurd (not_whole IsText (marks_up_to tokens stuck) y.0 y.1 (x.0, x.1))
 one_reading texts size tokens stuck (Err e) (Err f) (inr x) (inr y) =

@@ -1,10 +1,11 @@
 -- What a pattern is, by its items.
-use Rattle.std.specs.Prelude.{ℕ, suc, max, nat_eq, if◌then◌else◌, List, [], ◌∷◌, map, Option, Some, None, unwrap_or}
+use Rattle.std.specs.Prelude.{⊤, ◌≤◌, ℕ, suc, max, nat_eq, if◌then◌else◌, List, [], ◌∷◌, map, length, All, Option, Some, None, unwrap_or}
 use Rattle.std.specs.List.{range_with_len}
 use Rattle.lido_base.specs.declared.value.ValueType.{ValueType}
 use Rattle.lido_base.specs.declared.value.ValueType.TheVariants as type
 use Rattle.lido_base.specs.declared.pattern.Pattern.{Pattern}
 use Rattle.lido_base.specs.declared.pattern.Part.{Part}
+use Rattle.lido_base.specs.declared.pattern.PartPiece.{PartPiece}
 use Rattle.lido_base.specs.declared.pattern.PartPiece.TheVariants as piece
 use Rattle.ptg_patterns.specs.declared.written.Point.{Point as PointOf}
 use Rattle.ptg_patterns.specs.declared.written.Content.TheVariants.{Text, Point}
@@ -47,3 +48,12 @@ parts k (item ∷ items) = elim item.content [
 -- The pattern that is written so.
 abbrev pub pattern_of : Written → Pattern
 pattern_of written = record { name = written.name; args = argument_types (arguments 1 (points written.items)); parts = parts 1 written.items }
+
+-- What the piece inserts, if it inserts one, is among so many arguments, counted from 1.
+abbrev pub InsertsOneOf : ℕ → PartPiece → Type 0
+InsertsOneOf count (piece.Fixed id) = ⊤
+InsertsOneOf count (piece.Arg k) = (1 ≤ k) × (k ≤ count)
+
+-- The pattern's parts insert its arguments and no others.
+abbrev pub HasItsArguments : Pattern → Type 0
+HasItsArguments pattern = All (λ (part : Part). InsertsOneOf (length pattern.args) part.piece) pattern.parts

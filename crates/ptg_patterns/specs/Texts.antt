@@ -16,8 +16,8 @@ use Rattle.ptg_patterns.specs.Clashes.{CantStand, IsClash}
 use Rattle.ptg_patterns.specs.Meaning.{pattern_of}
 
 -- Where the mark of this number begins; behind the last one, where the tokens end.
-abbrev pub place_of : ℕ → List Token → Option ℕ → ℕ → ℕ
-place_of size tokens stuck k = elim (slice_get tokens k) [ Some token ↦ token.from | None ↦ unwrap_or stuck size ]
+abbrev pub mark_place : ℕ → List Token → Option ℕ → ℕ → ℕ
+mark_place size tokens stuck k = elim (slice_get tokens k) [ Some token ↦ token.from | None ↦ unwrap_or stuck size ]
 
 module _ (texts : List (List ℕ)) where
   -- The tokens in front of a text, their texts among these, and where no more can be formed, if they end before the text does.
@@ -29,7 +29,7 @@ module _ (texts : List (List ℕ)) where
   -- which they begin no text of patterns, or where one is missing; or the fault of the first pattern that can't stand.
   abbrev pub Reads : ℕ → List Token → Option ℕ → Result (List Pattern) PtgFault → Type 0
   Reads size tokens stuck (Ok patterns) = (all : List Written) × IsWritten (marks_up_to tokens stuck) all × HasNoClash (CantStand texts) all × (patterns ≡ map pattern_of all)
-  Reads size tokens stuck (Err fault) = ((k : ℕ) × IsFaultPlace IsText (marks_up_to tokens stuck) k × (fault ≡ PtgSyntax (place_of size tokens stuck k)))
+  Reads size tokens stuck (Err fault) = ((k : ℕ) × IsFaultPlace IsText (marks_up_to tokens stuck) k × (fault ≡ PtgSyntax (mark_place size tokens stuck k)))
       ⊎ ((all : List Written) × IsWritten (marks_up_to tokens stuck) all × IsClash texts all fault)
 
   -- What a text says, names and strings being given by their ids among these texts.

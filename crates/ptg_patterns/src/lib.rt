@@ -8,8 +8,6 @@ mod marks;
 mod patterns;
 mod reading;
 mod syntax;
-#[cfg(test)]
-mod tests;
 mod text;
 mod written;
 

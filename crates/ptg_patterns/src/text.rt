@@ -3,7 +3,8 @@ ghost use Rattle.std.specs.Prelude.{◌≡◌, ◌⊎◌, ◌+◌, ◌≤◌, �
 ghost use Rattle.lido_base.specs.Phases.{Gives};
 ghost use Rattle.lido_base.specs.Texts.{IsDistinctTexts, Gains};
 ghost use Rattle.lido_lexer.specs.Lexing.{HasText};
-ghost use Rattle.ptg_patterns.specs.Texts.{IsTableBehind, PatternsFrom, PatternsOf, Reads, place_of};
+ghost use Rattle.ptg_patterns.specs.Meaning.{HasItsArguments};
+ghost use Rattle.ptg_patterns.specs.Texts.{IsTableBehind, PatternsFrom, PatternsOf, Reads, mark_place};
 
 use crate::PtgFault;
 use crate::marks::marks;
@@ -15,8 +16,8 @@ use lido_lexer::{Lexed, Token, lex_as_far};
 use std::alloc::Global;
 
 /// Where the token of this number begins; behind the last one, where the tokens of a text of this size end.
-fn place_of(size: u32, tokens: &[Token], stuck: Option<u32>, k: usize) -> u32
-    ensures { result ≡ place_of size tokens.now stuck k }
+fn mark_place(size: u32, tokens: &[Token], stuck: Option<u32>, k: usize) -> u32
+    ensures { result ≡ mark_place size tokens.now stuck k }
 {
     match tokens.get(k) {
         Some(token) => token.from,
@@ -37,6 +38,7 @@ fn read_tokens(
     ensures patterns { IfOk result (λ found. Reads strings.now size tokens.now stuck (Ok found.items)) }
     ensures fault { IfErr result (λ e. (e ≡ PtgFault.Memory) ⊎ Reads strings.now size tokens.now stuck (Err e)) }
     ensures arguments { IfOk result (λ found. All (λ pattern. length pattern.args ≤ 64) found.items) }
+    ensures parts { IfOk result (λ found. All HasItsArguments found.items) }
     ensures names { IfOk result (λ found. All (λ pattern. pattern.name.0 < length strings.now) found.items) }
 {
     let marks = match marks(alloc, tokens, stuck) {
@@ -45,7 +47,7 @@ fn read_tokens(
     };
     if let Some(k) = first_misfit(&marks) {
         return Err(PtgFault::PtgSyntax {
-            at: place_of(size, tokens, stuck, k),
+            at: mark_place(size, tokens, stuck, k),
         });
     }
     let written = match written(alloc, &marks) {
@@ -83,6 +85,8 @@ pub fn read_patterns(
     ensures table { IfOk result (λ _. IsTableBehind strings.old text.now strings.new) }
     ensures table_of_fault { IfErr result (λ e. (e ≡ PtgFault.Memory) ⊎ IsTableBehind strings.old text.now strings.new) }
     ensures arguments { IfOk result (λ patterns. All (λ pattern. length pattern.args ≤ 64) patterns.list) }
+    // Each pattern's parts insert its arguments and no others.
+    ensures parts { IfOk result (λ patterns. All HasItsArguments patterns.list) }
     ensures names { IfOk result (λ patterns. All (λ pattern. pattern.name.0 < length strings.new) patterns.list) }
     ensures distinct { IsDistinctTexts strings.new }
     ensures kept { Gains strings.old strings.new }

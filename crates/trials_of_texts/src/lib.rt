@@ -1,5 +1,14 @@
-//! Long texts built and written: chains and ropes of deposits. Nothing of the product stands on them.
+//! Tests of what no contract says, by public calls alone: that memory is found, that devices fail, and how long large texts,
+//! tables, tokens and patterns take. Nothing of the product stands on them.
 #![tactic(auto)]
 
 #[cfg(test)]
-mod tests;
+mod chains;
+#[cfg(test)]
+mod names;
+#[cfg(test)]
+mod patterns;
+#[cfg(test)]
+mod tables;
+#[cfg(test)]
+mod tokens;

@@ -4,12 +4,8 @@
 
 mod contents;
 mod graphs;
-#[cfg(test)]
-mod names;
 mod operations;
 mod systems;
-#[cfg(test)]
-mod tests;
 mod trees;
 
 pub use contents::Sample;

@@ -1,3 +1,5 @@
 pub mod OutcomeLemmas
 pub mod HandedLemmas
 pub mod DistinctLemmas
+pub mod ResultLemmas
+pub mod StandsLemmas

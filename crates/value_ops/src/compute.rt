@@ -9,7 +9,7 @@ ghost use Rattle.lido_base.specs.declared.value.Desc.{Desc as Descriptor};
 ghost use Rattle.lido_base.specs.declared.value.Value.{Value as Given};
 ghost use Rattle.string_librarian.specs.Denotes.{read_by};
 ghost use Rattle.string_librarian.specs.Rooms.{RoomState};
-ghost use Rattle.value_ops.specs.Outcome.{piece_of, handed_on, DenoteAll, Gives, GivesNumber, StandsFor};
+ghost use Rattle.value_ops.specs.Outcome.{piece_of, handed_on, DenoteAll, IsOutcome, IsNumberOutcome, StandsFor};
 
 use crate::numbers::{difference, negated, product, quotient, remainder, sum};
 use lido_base::{BadKind, EMPTY, Op, StrId, Strings, Value};
@@ -19,8 +19,11 @@ use string_librarian::bytes_of;
 pub fn computed(op: Op, args: &[Value], strings: &Strings) -> Result<Value, BadKind>
     ensures value { (patterns : List TextPattern) (rooms : List RoomState) (reading : Descriptor → List ℕ) → piece_of op ≡ None
         → DenoteAll strings.now patterns rooms reading args.now
-        → Gives strings.now patterns rooms result (λ fails. applied strings.now patterns fails op (map (read_by strings.now reading) args.now)) }
+        → IsOutcome strings.now patterns rooms result (λ fails. applied strings.now patterns fails op (map (read_by strings.now reading) args.now)) }
     ensures handed { (v : Given) → handed_on op args.now ≡ Some v → result ≡ Ok v }
+    ensures unread { (patterns : List TextPattern) (rooms : List RoomState) (reading : Descriptor → List ℕ) → piece_of op ≡ None
+        → handed_on op args.now ≡ None
+        → IsOutcome strings.now patterns rooms result (λ fails. applied strings.now patterns fails op (map (read_by strings.now reading) args.now)) }
 {
     let Some((a, rest)) = next(args) else {
         return Ok(of_none(op));
@@ -62,8 +65,11 @@ fn of_none(op: Op) -> Value
 fn of_one(op: Op, a: Value) -> Result<Value, BadKind>
     ensures value { (texts : List (List ℕ)) (patterns : List TextPattern) (rooms : List RoomState) (reading : Descriptor → List ℕ) → piece_of op ≡ None
         → DenoteAll texts patterns rooms reading (a ∷ [])
-        → Gives texts patterns rooms result (λ fails. applied texts patterns fails op (read_by texts reading a ∷ [])) }
+        → IsOutcome texts patterns rooms result (λ fails. applied texts patterns fails op (read_by texts reading a ∷ [])) }
     ensures handed { (v : Given) → handed_on op (a ∷ []) ≡ Some v → result ≡ Ok v }
+    ensures unread { (texts : List (List ℕ)) (patterns : List TextPattern) (rooms : List RoomState) (reading : Descriptor → List ℕ) → piece_of op ≡ None
+        → handed_on op (a ∷ []) ≡ None
+        → IsOutcome texts patterns rooms result (λ fails. applied texts patterns fails op (read_by texts reading a ∷ [])) }
 {
     match op {
         Op::Identical => Ok(a),
@@ -83,7 +89,7 @@ fn of_one(op: Op, a: Value) -> Result<Value, BadKind>
 /// What an operation gives for two arguments.
 fn of_two(op: Op, a: Value, b: Value, strings: &Strings) -> Result<Value, BadKind>
     ensures { (patterns : List TextPattern) (rooms : List RoomState) (reading : Descriptor → List ℕ) → piece_of op ≡ None
-        → Gives strings.now patterns rooms result (λ fails. applied strings.now patterns fails op (read_by strings.now reading a ∷ read_by strings.now reading b ∷ [])) }
+        → IsOutcome strings.now patterns rooms result (λ fails. applied strings.now patterns fails op (read_by strings.now reading a ∷ read_by strings.now reading b ∷ [])) }
 {
     match a {
         Value::Int(x) => of_int_and(op, x, b),
@@ -102,7 +108,7 @@ fn of_two(op: Op, a: Value, b: Value, strings: &Strings) -> Result<Value, BadKin
 /// What an operation gives for an int and another argument.
 fn of_int_and(op: Op, x: i64, b: Value) -> Result<Value, BadKind>
     ensures { (texts : List (List ℕ)) (patterns : List TextPattern) (rooms : List RoomState) (reading : Descriptor → List ℕ) → piece_of op ≡ None
-        → Gives texts patterns rooms result (λ fails. applied texts patterns fails op (Whole x ∷ read_by texts reading b ∷ [])) }
+        → IsOutcome texts patterns rooms result (λ fails. applied texts patterns fails op (Whole x ∷ read_by texts reading b ∷ [])) }
 {
     match b {
         Value::Int(y) => of_ints(op, x, y),
@@ -113,7 +119,7 @@ fn of_int_and(op: Op, x: i64, b: Value) -> Result<Value, BadKind>
 /// What an operation gives for two ints.
 fn of_ints(op: Op, x: i64, y: i64) -> Result<Value, BadKind>
     ensures { (texts : List (List ℕ)) (patterns : List TextPattern) (rooms : List RoomState) → piece_of op ≡ None
-        → Gives texts patterns rooms result (λ fails. applied texts patterns fails op (Whole x ∷ Whole y ∷ [])) }
+        → IsOutcome texts patterns rooms result (λ fails. applied texts patterns fails op (Whole x ∷ Whole y ∷ [])) }
 {
     match op {
         Op::Add => number(sum(x, y)),
@@ -175,7 +181,7 @@ fn are_equal(strings: &Strings, s: StrId, t: StrId) -> bool
 /// The number as a value.
 fn number(outcome: Result<i64, BadKind>) -> Result<Value, BadKind>
     ensures { (texts : List (List ℕ)) (patterns : List TextPattern) (rooms : List RoomState) (p : (Failure → Plain) → Plain)
-        → GivesNumber outcome p → Gives texts patterns rooms result p }
+        → IsNumberOutcome outcome p → IsOutcome texts patterns rooms result p }
 {
     match outcome {
         Ok(value) => Ok(Value::Int(value)),

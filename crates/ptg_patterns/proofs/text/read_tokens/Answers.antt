@@ -6,7 +6,7 @@ use Rattle.ptg_patterns.specs.declared.marks.Mark.{Mark}
 use Rattle.ptg_patterns.specs.declared.written.Written.{Written}
 use Rattle.ptg_patterns.specs.Marks.{marks_up_to}
 use Rattle.ptg_patterns.specs.Language.{IsWritten, IsText}
-use Rattle.ptg_patterns.proofs.CountsLemmas.{AreFew, written_fit, all_small, few_found, names_found}
+use Rattle.ptg_patterns.proofs.CountsLemmas.{AreFew, written_fit, all_small, few_found, parts_found, names_found}
 use Rattle.ptg_patterns.proofs.IdsLemmas.{all_named, written_named, written_few, few_marks, found_is}
 use Rattle.ptg_patterns.proofs.text.read_tokens.Goals as goal
 
@@ -41,6 +41,17 @@ returns-clause-arguments c =
     let few = subst (λ (l : List Written). All (λ (w : Written). AreFew w.items) l) (sym c.deref-3.ensures.value)
     (written_fit all c.in-Ok-written.written.items written (all_small c.args.tokens.now c.args.stuck)) in
     few_found (λ (v : Vec Pattern Global). v.items) c.patterns.result c.deref-3.result.now c.patterns.ensures.patterns c.patterns.ensures.agree few
+
+pub returns-clause-parts : goal.returns-clause-parts
+returns-clause-parts c =
+    let all = marks_up_to c.args.tokens.now c.args.stuck in
+    let fits = subst IsText (c.deref.ensures.value ∙ c.in-Ok.ensures.marks) c.in_default.ensures.fits in
+    let reading = subst (λ (l : List Mark). (patterns : List Written) → IsWritten l patterns → patterns ≡ c.in-Ok-written.written.items) (c.deref-2.ensures.value ∙ c.in-Ok.ensures.marks)
+    c.in-Ok-written.ensures.written in
+    let written = found_is all c.in-Ok-written.written.items fits reading in
+    let few = subst (λ (l : List Written). All (λ (w : Written). AreFew w.items) l) (sym c.deref-3.ensures.value)
+    (written_fit all c.in-Ok-written.written.items written (all_small c.args.tokens.now c.args.stuck)) in
+    parts_found (λ (v : Vec Pattern Global). v.items) c.patterns.result c.deref-3.result.now c.patterns.ensures.patterns few
 
 pub returns-clause-names : goal.returns-clause-names
 returns-clause-names c =

@@ -1,7 +1,7 @@
 use Rattle.std.proofs.Common.{◌≡◌, ◌∙◌, ap, arith, length, List, ℕ, [], ◌∷◌}
 use Rattle.string_librarian.specs.Rooms.{cells_of}
 use Rattle.trials_of_texts.proofs.HeldLemmas.{cells_of-push, held_by, kept_by, joined_bytes, makes_joined, length-joined}
-use Rattle.trials_of_texts.proofs.tests.joined.Goals as goal
+use Rattle.trials_of_texts.proofs.chains.joined.Goals as goal
 
 pub returns-clause-held : goal.returns-clause-held
 returns-clause-held c =

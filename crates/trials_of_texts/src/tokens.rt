@@ -1,75 +1,34 @@
-//! Tests of what no contract says: that memory is found, that the definitions mean the language, and how long it takes.
-use crate::{LexFault, Token, TokenKind, lex};
+//! Tokens of texts: what the definitions mean, and how long large texts take.
 use lido_base::{StrId, Strings};
+use lido_lexer::{Token, TokenKind, lex};
 use std::alloc::{AllocError, Global};
 use std::test::Fail;
 use std::time::Instant;
 
-/// Texts, and what they spell: for each token a letter for its kind, what it says, and where it stands; or the place of the
-/// fault behind an exclamation mark.
-const CASES: [(&[u8], &[u8]); 55] = [
-    (b"", b""),
-    (b" \t\x0c\r\n", b""),
-    (b"a<-1", b"Wa@0-1 G<-@1-3 I1@3-4 "),
-    (b"a< -1", b"Wa@0-1 G<@1-2 G-@3-4 I1@4-5 "),
-    (b"/*/", b"!0"),
-    (b"/**/x", b"Wx@4-5 "),
+/// Texts, and what they spell: for each token a letter for its kind, what it says, and where it stands.
+const CASES: [(&[u8], &[u8]); 18] = [
     (b"/***//* a */ b */", b"Wb@13-14 G*@15-16 G/@16-17 "),
-    (b"a /* b *", b"!2"),
-    (b"// x\ny", b"Wy@5-6 "),
     (b"a// x /*", b"Wa@0-1 "),
-    (b"//\r\n7", b"I7@4-5 "),
-    (b"/ /", b"G/@0-1 G/@2-3 "),
-    (b"/ *", b"G/@0-1 G*@2-3 "),
-    (b"\"\\400\"", b"!0"),
     (b"\"\\377\"", b"S\xff@0-6 "),
     (b"\"\\18\"", b"S\x018@0-5 "),
     (b"\"\\1234\"", b"SS4@0-7 "),
-    (b"\"\\8\"", b"!0"),
-    (b"\"\\x41\"", b"!0"),
     (
         b"\"\\n\\t\\r\\a\\b\\f\\v\\\\\\\"\\'\\?\"",
         b"S\n\t\r\x07\x08\x0c\x0b\\\"'?@0-24 ",
     ),
-    (b"\"\"", b"S@0-2 "),
-    (b"x \"a\nb\"", b"!2"),
-    (b"\"a\tb\"", b"Sa\tb@0-5 "),
     (b"\"\x80\xff\"", b"S\x80\xff@0-4 "),
-    (b"x \x80", b"!2"),
-    (b"\"abc", b"!0"),
-    (b"\"a\\", b"!0"),
-    (b"'\\n'", b"L\\n@0-4 "),
-    (b"'\n'", b"!0"),
-    (b"''", b"!0"),
-    (b"'a", b"!0"),
     (b"'\xff\"'", b"L\xff\"@0-4 "),
-    (b"1234567890123456789", b"I1234567890123456789@0-19 "),
     (b"9223372036854775807", b"I9223372036854775807@0-19 "),
-    (b"9223372036854775808", b"!0"),
-    (b"12345678901234567890", b"!0"),
     (b"00000000000000000000012", b"I12@0-23 "),
     (b"1a", b"I1@0-1 Wa@1-2 "),
     (
         b"RULE RULES rule _RULE",
         b"KRULE@0-4 WRULES@5-10 Wrule@11-15 W_RULE@16-21 ",
     ),
-    (
-        b"PTGout Ptgnull True",
-        b"WPTGout@0-6 WPtgnull@7-14 WTrue@15-19 ",
-    ),
-    (b"x1_Y", b"Wx1_Y@0-4 "),
-    (b"::==", b"G::=@0-3 G=@3-4 "),
     (b":::=", b"G:@0-1 G::=@1-4 "),
-    (b"::", b"G:@0-1 G:@1-2 "),
-    (b"a&b", b"!1"),
     (b"|||", b"G||@0-2 G|@2-3 "),
     (b"<=-", b"G<=@0-2 G-@2-3 "),
-    (b"<--", b"G<-@0-2 G-@2-3 "),
-    (b"!==", b"G!=@0-2 G=@2-3 "),
     (b"$1int", b"G$@0-1 I1@1-2 Kint@2-5 "),
-    (b"#", b"!0"),
-    (b"a\x0bb", b"!1"),
-    (b"a\x00", b"!1"),
     (
         b"RULE COMPUTE END LISTOF CLASS SYMBOL INHERITS ATTR TERM CHAIN CHAINSTART HEAD TAIL INH SYNT THIS INCLUDING CONSTITUENTS SHIELD WITH IF ORDER PTGOut PTGNULL PTGNode VOID int string bool true false ",
         b"KRULE@0-4 KCOMPUTE@5-12 KEND@13-16 KLISTOF@17-23 KCLASS@24-29 KSYMBOL@30-36 KINHERITS@37-45 KATTR@46-50 KTERM@51-55 KCHAIN@56-61 KCHAINSTART@62-72 KHEAD@73-77 KTAIL@78-82 KINH@83-86 KSYNT@87-91 KTHIS@92-96 KINCLUDING@97-106 KCONSTITUENTS@107-119 KSHIELD@120-126 KWITH@127-131 KIF@132-134 KORDER@135-140 KPTGOut@141-147 KPTGNULL@148-155 KPTGNode@156-163 KVOID@164-168 Kint@169-172 Kstring@173-179 Kbool@180-184 Ktrue@185-189 Kfalse@190-195 ",
@@ -155,11 +114,7 @@ fn answer(alloc: Global, text: &[u8]) -> Result<Vec<u8>, Fail> {
                 push_token(alloc, &mut out, &strings, *token)?;
             }
         }
-        Err(LexFault::Lexical { at }) => {
-            out.push(b'!')?;
-            push_number(alloc, &mut out, i64::from(at))?;
-        }
-        Err(LexFault::Memory) => out.push(b'?')?,
+        Err(_) => out.push(b'?')?,
     }
     Ok(out)
 }
@@ -209,7 +164,7 @@ fn long_text(alloc: Global, front: &[u8; 2], end: &[u8; 2]) -> Result<Vec<u8>, A
 }
 
 #[test]
-fn texts_of_eight_mebibytes(rt: HostRuntime) -> Result<(), Fail> {
+fn tokens_of_eight_mebibytes(rt: HostRuntime) -> Result<(), Fail> {
     let alloc = rt.alloc();
     let start = Instant::now(&rt)?;
     assert_eq!(rt;

@@ -1,5 +1,5 @@
 use Rattle.std.proofs.Common.{◌≤◌, ◌+◌, ◌*◌}
-use Rattle.trials_of_texts.proofs.tests.rope.Given as goal
+use Rattle.trials_of_texts.proofs.chains.rope.Given as goal
 
 abbrev pub invariant-loop : goal.invariant-loop
 invariant-loop l = record {

@@ -1,7 +1,7 @@
 use Rattle.std.proofs.Common.{◌≡◌, ◌∙◌, ap, arith, length, List, ℕ, [], ◌∷◌, slice_get, unwrap_or}
 use Rattle.string_librarian.specs.Rooms.{cells_of}
 use Rattle.trials_of_texts.proofs.HeldLemmas.{makes_string, cells_of-push, held_by, kept_by}
-use Rattle.trials_of_texts.proofs.tests.string.Goals as goal
+use Rattle.trials_of_texts.proofs.chains.string.Goals as goal
 
 pub returns-clause-held : goal.returns-clause-held
 returns-clause-held c =

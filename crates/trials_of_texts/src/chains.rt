@@ -1,4 +1,4 @@
-//! Long chains and large ropes.
+//! Texts that are chains and ropes of deposits, and sinks that fail.
 ghost use Rattle.std.specs.Prelude.{◌≡◌, ◌≤◌, ◌<◌, ◌+◌, ◌-◌, ◌*◌, ◌^◌, ℕ, List, Some, [], ◌∷◌, length, slice_get, IfOk};
 ghost use Rattle.string_librarian.specs.Rooms.{all_cells, cells_of};
 ghost use Rattle.string_librarian.specs.Denotes.{Denotes};
@@ -87,13 +87,13 @@ fn table(alloc: Global) -> Result<(Strings, StrId, StrId), Memory>
     Ok((texts, sign, unit))
 }
 
-fn sink(alloc: Global, step: u32) -> Result<MemSink, AllocError>
+fn sink(alloc: Global, step: u32, fail: Vec<u32>) -> Result<MemSink, AllocError>
     requires { 0 < step }
 {
     Ok(MemSink {
         bytes: List::from_vec(Vec::with_capacity(alloc, 1_000_001)?),
         step,
-        fail: List::new(alloc),
+        fail: List::from_vec(fail),
         calls: 0,
         faults: 0,
     })
@@ -110,8 +110,8 @@ fn long_chains(rt: HostRuntime) -> Result<(), Fail> {
         let start = Instant::now(&rt)?;
         let (library, text) = chain(alloc, &texts, sign, unit, 500_000, in_front)?;
         let mut stack = Stack::reserve(alloc, 2_500_002)?;
-        let mut slow = sink(alloc, 1)?;
-        let mut fast = sink(alloc, 4_096)?;
+        let mut slow = sink(alloc, 1, Vec::new(alloc))?;
+        let mut fast = sink(alloc, 4_096, Vec::new(alloc))?;
         assert!(rt;
             library
                 .write(&texts, &patterns, text, &mut stack, &mut slow)
@@ -127,6 +127,28 @@ fn long_chains(rt: HostRuntime) -> Result<(), Fail> {
         assert_eq!(rt; slow.bytes.as_slice().starts_with(b">ab"), !in_front);
         assert_eq!(rt; slow.bytes.as_slice().ends_with(b"ab>"), in_front);
         assert!(rt; start.elapsed(&rt)?.as_secs() < 20);
+    }
+    Ok(())
+}
+
+#[test]
+fn a_sink_that_fails_at_each_call(rt: HostRuntime) -> Result<(), Fail> {
+    let alloc = rt.alloc();
+    let (texts, sign, unit) = table(alloc)?;
+    let patterns = Patterns {
+        list: List::new(alloc),
+    };
+    let (library, text) = chain(alloc, &texts, sign, unit, 4, false)?;
+    for k in 0u32..10 {
+        let mut stack = Stack::reserve(alloc, 22)?;
+        let mut out = sink(alloc, 1, vec![in alloc; k]?)?;
+        let written = match library.write(&texts, &patterns, text, &mut stack, &mut out) {
+            Ok(()) => 9,
+            Err(fault) => fault.written,
+        };
+        assert_eq!(rt; written, u64::from(k));
+        assert!(rt; b">abababab".starts_with(out.bytes.as_slice()));
+        assert_eq!(rt; out.bytes.len() as u64, written);
     }
     Ok(())
 }

@@ -1,7 +1,7 @@
 use Rattle.std.proofs.Common.{◌≡◌, ◌+◌, ◌*◌}
 use Rattle.string_librarian.specs.Rooms.{cells_of}
 use Rattle.trials_of_texts.specs.Held.{IsHeld}
-use Rattle.trials_of_texts.proofs.tests.chain.Given as goal
+use Rattle.trials_of_texts.proofs.chains.chain.Given as goal
 
 abbrev pub invariant-loop : goal.invariant-loop
 invariant-loop l = record {

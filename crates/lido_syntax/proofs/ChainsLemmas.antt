@@ -3,6 +3,7 @@ use Rattle.std.specs.Prelude.{Contains, slice_get}
 use Rattle.std.proofs.Common.{◌≡◌, ℕ, zero, suc, inl, inr, List, [], ◌∷◌, ◌++◌, Some, refl, arith, ap, sym, subst, ◌∙◌}
 use Rattle.lido_base.specs.Plain.{Plain, Void}
 use Rattle.lido_base.specs.Tree.{Tree}
+use Rattle.lido_base.proofs.Lists.{place-contains}
 use Rattle.lido_syntax.specs.declared.spec.Spec.{Spec}
 use Rattle.lido_syntax.specs.declared.spec.Comp.{Comp}
 use Rattle.lido_syntax.specs.declared.spec.Expr.{Expr}
@@ -38,23 +39,15 @@ no_last : (xs : List ℕ) (x : ℕ) → ¬ ([] ≡ xs ++ x ∷ [])
 no_last [] x e = cc
 no_last (a ∷ xs) x e = cc
 
-some_same : {X : Type 0} (x y : X) → Some x ≡ Some y → x ≡ y
-some_same x y e = cc
-
-pub slice_get-contains : {X : Type 0} (xs : List X) (i : ℕ) (x : X) → slice_get xs i ≡ Some x → Contains xs x
-slice_get-contains [] i x e = cc
-slice_get-contains (y ∷ ys) zero x e = (0, (omega arith), some_same y x e)
-slice_get-contains (y ∷ ys) (suc i) x e = let k = slice_get-contains ys i x e in (suc k.0, (omega (arith, k.1)), k.2)
-
 module _ (spec : Spec) (t : Tree Plain) where
-  at_rule : (n : ℕ) (r q : RuleItem) → IsAt spec t n r → IsAt spec t n q → r ≡ q
+  pub at_rule : (n : ℕ) (r q : RuleItem) → IsAt spec t n r → IsAt spec t n q → r ≡ q
   at_rule n r q (i, e, f) (j, g, h) = cc
 
 module _ (spec : Spec) (single : IsSingle spec) (sets : Sets spec) (env : Environment) (t : Tree Plain) (A : Assignment) where
-  same_in_force : (n : ℕ) (goal : Goal) (h k : Holder) (c d : Comp) → InForceAt spec t n goal h c → InForceAt spec t n goal k d → (h ≡ k) × (c ≡ d)
+  pub same_in_force : (n : ℕ) (goal : Goal) (h k : Holder) (c d : Comp) → InForceAt spec t n goal h c → InForceAt spec t n goal k d → (h ≡ k) × (c ≡ d)
   same_in_force n goal h k c d (r, (i, e, f), a) (q, at, b) =
       let same : q ≡ r = at_rule spec t n q r at (i, e, f) in
-      one_in_force spec single r (slice_get-contains spec.rules i r f) 0 (left_of r) goal h k c d a (subst (λ q. InForce spec q 0 (left_of q) goal k d) same b)
+      one_in_force spec single r (place-contains spec.rules i r f) 0 (left_of r) goal h k c d a (subst (λ q. InForce spec q 0 (left_of q) goal k d) same b)
 
   same_start : (c n : ℕ) (v w : Plain) → IsStart spec sets env t A c n v → IsStart spec sets env t A c n w → v ≡ w
   same_start c n v w (h, x, r, f, at, e) (k, y, q, g, at', e') =
@@ -63,13 +56,13 @@ module _ (spec : Spec) (single : IsSingle spec) (sets : Sets spec) (env : Enviro
       let values : value_by spec sets env t A (λ chain. Void) n h r x ≡ value_by spec sets env t A (λ chain. Void) n k q y = λ i. value_by spec sets env t A (λ chain. Void) n (same.0 i) (rules i) (same.1 i) in
       e ∙ values ∙ sym e'
 
-  same_entry : (c n : ℕ) (v w : Plain) → IsEntry spec sets env t A c n v → IsEntry spec sets env t A c n w → v ≡ w
+  pub same_entry : (c n : ℕ) (v w : Plain) → IsEntry spec sets env t A c n v → IsEntry spec sets env t A c n w → v ≡ w
   same_entry c n v w (inl a) (inl b) = same_start c n v w a b
   same_entry c n v w (inl a) (inr b) = absurd (b.0 (a.0, a.1, a.3))
   same_entry c n v w (inr a) (inl b) = absurd (a.0 (b.0, b.1, b.3))
   same_entry c n v w (inr a) (inr b) = a.1 ∙ sym b.1
 
-  same_tail : (c n : ℕ) (v w : Plain) → IsTail spec sets env t A c n v → IsTail spec sets env t A c n w → v ≡ w
+  pub same_tail : (c n : ℕ) (v w : Plain) → IsTail spec sets env t A c n v → IsTail spec sets env t A c n w → v ≡ w
   same_tail c n v w (inl (xs, x, e, f)) (inl (ys, y, g, h)) = let last : x ≡ y = same_last _ xs ys x y e g in f ∙ (λ i. value_at A (last i) (Behind c)) ∙ sym h
   same_tail c n v w (inl (xs, x, e, f)) (inr (g, b)) = absurd (no_last xs x (sym g ∙ e))
   same_tail c n v w (inr (e, a)) (inl (ys, y, g, h)) = absurd (no_last ys y (sym e ∙ g))

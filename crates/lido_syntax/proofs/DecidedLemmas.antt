@@ -4,6 +4,8 @@ use Rattle.std.proofs.Common.{◌≡◌, ℕ, zero, suc, ◌⊎◌, inl, inr, Li
 use Rattle.lido_base.specs.Environment.{Environment}
 use Rattle.lido_base.specs.Plain.{Plain, Void}
 use Rattle.lido_base.specs.Tree.{Tree, contains, children, rule_at}
+use Rattle.std.proofs.lemmas.Option.{same_Some}
+use Rattle.lido_base.proofs.Lists.{flat-contains}
 use Rattle.lido_base.proofs.TreeLemmas.{contains-cons, contains-test, test-contains}
 use Rattle.lido_syntax.specs.declared.spec.Spec.{Spec}
 use Rattle.lido_syntax.specs.declared.spec.Comp.{Comp}
@@ -62,9 +64,6 @@ dec_option (Some j) k = go (dec_same j k)
     go (inl e) = inl (ap (λ x. Some x) e)
     go (inr n) = inr (λ h. n (let f : j ≡ k = cc in f))
 
-some_same : {X : Type 0} (x y : X) → Some x ≡ Some y → x ≡ y
-some_same x y e = cc
-
 dec_any : {X : Type 0} (P : X → Type 0) → ((x : X) → Decided (P x)) → (xs : List X) → Decided ((x : X) × Contains xs x × P x)
 dec_any P d [] = inr (λ h. omega (arith, h.1.1))
 dec_any P d (x ∷ xs) = go (d x) (dec_any P d xs)
@@ -77,22 +76,6 @@ dec_any P d (x ∷ xs) = go (d x) (dec_any P d xs)
         at : {y : _} → (x ≡ y) ⊎ Contains xs y → ¬ P y
         at {y} (inl e) p = n (subst P (sym e) p)
         at {y} (inr k) p = none (y, k, p)
-
-any_front : (s : ℕ) (xs ys : List ℕ) → IsTrue (contains s xs) → IsTrue (contains s (xs ++ ys))
-any_front s [] ys h = cc
-any_front s (x ∷ xs) ys h = go (nat_eq s x) h (any_front s xs ys)
-  where
-    go : (b : Bool) → IsTrue (b || contains s xs) → (IsTrue (contains s xs) → IsTrue (contains s (xs ++ ys))) → IsTrue (b || contains s (xs ++ ys))
-    go true h later = refl
-    go false h later = later h
-
-any_back : (s : ℕ) (xs ys : List ℕ) → IsTrue (contains s ys) → IsTrue (contains s (xs ++ ys))
-any_back s [] ys h = h
-any_back s (x ∷ xs) ys h = go (nat_eq s x) (any_back s xs ys h)
-  where
-    go : (b : Bool) → IsTrue (contains s (xs ++ ys)) → IsTrue (b || contains s (xs ++ ys))
-    go true h = refl
-    go false h = h
 
 -- a goal that is no message
 abbrev IsNoMessage : Goal → Type 0
@@ -124,7 +107,7 @@ module _ (spec : Spec) where
   dec_symbol_target t goal = inr (λ h. h)
 
   -- what is among the plain computations of a rule is one
-  message_within : (cs : List Comp) (j : ℕ) (c : Comp) → slice_get (filter is_message cs) j ≡ Some c → Contains cs c × IsTrue (is_message c)
+  pub message_within : (cs : List Comp) (j : ℕ) (c : Comp) → slice_get (filter is_message cs) j ≡ Some c → Contains cs c × IsTrue (is_message c)
   message_within [] j c e = cc
   message_within (x ∷ xs) j c e = go (is_message x) refl j e (λ j e. message_within xs j c e)
     where
@@ -135,9 +118,9 @@ module _ (spec : Spec) where
           → ((j : ℕ) → slice_get (filter is_message xs) j ≡ Some c → Contains xs c × IsTrue (is_message c)) → Contains (x ∷ xs) c × IsTrue (is_message c)
       go false h j e more = later (more j e)
       go true h (suc j) e more = later (more j e)
-      go true h zero e more = let same : x ≡ c = some_same x c e in ((0, omega arith, same), subst (λ (c : Comp). IsTrue (is_message c)) same h)
+      go true h zero e more = let same : x ≡ c = same_Some x c e in ((0, omega arith, same), subst (λ (c : Comp). IsTrue (is_message c)) same h)
 
-  message_target : (r : RuleItem) (c : Comp) (j : ℕ) → slice_get (messages_of r) j ≡ Some c → (t : Target) → c.target ≡ t → IsTrue (elim t [ target.Message s e ↦ true | _ ↦ false ]) → IsRuleTarget spec r c t 0 (Message (suc j))
+  pub message_target : (r : RuleItem) (c : Comp) (j : ℕ) → slice_get (messages_of r) j ≡ Some c → (t : Target) → c.target ≡ t → IsTrue (elim t [ target.Message s e ↦ true | _ ↦ false ]) → IsRuleTarget spec r c t 0 (Message (suc j))
   message_target r c j e (target.Message s x) f h = e
   message_target r c j e t f h = cc
 
@@ -191,16 +174,8 @@ module _ (spec : Spec) where
   abbrev all_names : List ℕ
   all_names = flat_map names_of spec.symbols
 
-  named_item : (s : ℕ) (items : List SymbolItem) (item : SymbolItem) → Contains items item → IsTrue (contains s (names_of item)) → Contains (flat_map names_of items) s
-  named_item s [] item m h = absurd (omega (arith, m.1))
-  named_item s (x ∷ xs) item m h = go (contains-cons x item xs m) (λ k. named_item s xs item k h)
-    where
-      go : (x ≡ item) ⊎ Contains xs item → (Contains xs item → Contains (flat_map names_of xs) s) → Contains (flat_map names_of (x ∷ xs)) s
-      go (inl e) later = contains-test s (names_of x ++ flat_map names_of xs) (any_front s (names_of x) (flat_map names_of xs) (subst (λ (item : SymbolItem). IsTrue (contains s (names_of item))) (sym e) h))
-      go (inr k) later = contains-test s (names_of x ++ flat_map names_of xs) (any_back s (names_of x) (flat_map names_of xs) (test-contains s (flat_map names_of xs) (later k)))
-
   computing : (s : ℕ) (goal : Goal) → HasInSymbol spec s goal → Contains all_names s
-  computing s goal (c, ((item, m, named, k), h)) = named_item s spec.symbols item m named
+  computing s goal (c, ((item, m, named, k), h)) = flat-contains names_of spec.symbols item s m (contains-test s (names_of item) named)
 
   module _ (sets : Sets spec) where
     dec_inherits : (s class : ℕ) → Decided (Inherits spec s class)
@@ -244,7 +219,7 @@ module _ (spec : Spec) where
     dec_goal_at zero goal = inl tt
     dec_goal_at (suc k) goal = inr (λ h. h)
 
-    goal_of : (r : RuleItem) (k s : ℕ) (goal : Goal) (h : Holder) (c : Comp) → InForce spec r k s goal h c → IsGoalOf r k s goal
+    pub goal_of : (r : RuleItem) (k s : ℕ) (goal : Goal) (h : Holder) (c : Comp) → InForce spec r k s goal h c → IsGoalOf r k s goal
     goal_of r k s goal _ c (of_rule is a) = is
     goal_of r k s goal _ c (of_symbol is n a) = is
     goal_of r k s goal _ c (of_class class is n o left one a) = is
@@ -310,12 +285,12 @@ module _ (spec : Spec) (sets : Sets spec) (env : Environment) (t : Tree Plain) (
   last x [] = ([], x, refl)
   last x (y ∷ ys) = let more = last y ys in (x ∷ more.0, more.1, ap (λ zs. x ∷ zs) more.2)
 
-  tail : (c n : ℕ) → (v : Plain) × IsTail spec sets env t A c n v
-  tail c n = go (children t n) refl
+  pub a_tail : (c n : ℕ) → (v : Plain) × IsTail spec sets env t A c n v
+  a_tail c n = go (children t n) refl
     where
       go : (xs : List ℕ) → children t n ≡ xs → (v : Plain) × IsTail spec sets env t A c n v
       go [] e = let v = entry c n in (v.0, inr (e, v.1))
       go (x ∷ xs) e = let l = last x xs in (value_at A l.1 (Behind c), inl (l.0, l.1, e ∙ l.2, refl))
 
   pub a_value : (n : ℕ) (r : RuleItem) (h : Holder) (number : ℕ) (e : Expr) → IsAt spec t n r → (v : Plain) × IsValue spec sets env t A n h number e v
-  a_value n r h number e at = (value spec sets env t A h r number n (λ c. (tail c n).0) e, (r, (λ c. (tail c n).0), at, (λ c h. (tail c n).1), refl))
+  a_value n r h number e at = (value spec sets env t A h r number n (λ c. (a_tail c n).0) e, (r, (λ c. (a_tail c n).0), at, (λ c h. (a_tail c n).1), refl))

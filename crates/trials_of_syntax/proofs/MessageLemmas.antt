@@ -1,32 +1,53 @@
--- The plain computations that are in force.
-use Rattle.std.specs.Prelude.{Contains, slice_get}
-use Rattle.std.specs.List.{AllByRecursion}
-use Rattle.std.proofs.Common.{◌≡◌, ℕ, suc, List, [], ◌∷◌, Some, refl}
-use Rattle.lido_base.specs.Plain.{Plain}
+-- What a plain computation gives at a node, from the values of its condition and its text.
+use Rattle.std.specs.Prelude.{Some, None, Option}
+use Rattle.std.proofs.Common.{◌≡◌, ℕ, [], ◌∷◌, refl, subst, sym, ◌∙◌}
+use Rattle.lido_base.specs.Environment.{Environment}
+use Rattle.lido_base.specs.Operations.{chosen}
+use Rattle.lido_base.specs.Plain.{Plain, Void}
 use Rattle.lido_base.specs.Tree.{Tree}
 use Rattle.lido_syntax.specs.declared.spec.Spec.{Spec}
 use Rattle.lido_syntax.specs.declared.spec.Comp.{Comp}
+use Rattle.lido_syntax.specs.declared.spec.Expr.{Expr}
 use Rattle.lido_syntax.specs.declared.spec.RuleItem.{RuleItem}
-use Rattle.lido_syntax.specs.Production.{left_of}
-use Rattle.lido_syntax.specs.Computation.{Holder, by_rule, Message, messages_of, InForce, of_rule, of_symbol, of_class}
-use Rattle.lido_syntax.specs.Nodes.{InForceAt}
-use Rattle.lido_syntax.proofs.ChainsLemmas.{slice_get-contains}
-use Rattle.lido_syntax.proofs.DecidedLemmas.{from_message}
-use Rattle.trials_of_syntax.proofs.Members.{every}
+use Rattle.lido_syntax.specs.declared.spec.Severity.{Severity}
+use Rattle.lido_syntax.specs.declared.spec.Target.TheVariants as target
+use Rattle.lido_syntax.specs.Assignment.{Assignment}
+use Rattle.lido_syntax.specs.Computation.{by_rule}
+use Rattle.lido_syntax.specs.Sets.{Sets}
+use Rattle.lido_syntax.specs.Nodes.{IsAt}
+use Rattle.lido_syntax.specs.Value.{value}
+use Rattle.lido_syntax.specs.Chains.{IsValue}
+use Rattle.lido_syntax.specs.Messages.{IsMessage, unconditional, conditional}
+use Rattle.lido_syntax.proofs.ChainsLemmas.{at_rule}
+use Rattle.lido_syntax.proofs.DecidedLemmas.{a_value}
 
-at_rule : (spec : Spec) (r : RuleItem) (k s j : ℕ) (h : Holder) (c : Comp) → InForce spec r k s (Message j) h c → h ≡ by_rule → (i : ℕ) × (j ≡ suc i) × (slice_get (messages_of r) i ≡ Some c)
-at_rule spec r k s j _ c (of_rule is a) e = let found = from_message spec r c c.target k j a.1 in (found.0, found.2, found.3)
-at_rule spec r k s j _ c (of_symbol is none a) e = cc
-at_rule spec r k s j _ c (of_class class is none own left one a) e = cc
+module _ (spec : Spec) (sets : Sets spec) (env : Environment) (t : Tree Plain) (A : Assignment) (n : ℕ) (r : RuleItem) (at : IsAt spec t n r) where
+  -- the expression has this value, whatever TAIL is
+  abbrev pub ComesTo : ℕ → Expr → Plain → Type 0
+  ComesTo number e v = (tail : ℕ → Plain) → value spec sets env t A by_rule r number n tail e ≡ v
 
--- the message in force at a node is one of its rule
-pub in_force : (spec : Spec) (t : Tree Plain) (n j : ℕ) (c : Comp) → InForceAt spec t n (Message j) by_rule c → (r : RuleItem) × Contains spec.rules r × ((i : ℕ) × (j ≡ suc i) × (slice_get (messages_of r) i ≡ Some c))
-in_force spec t n j c (r, (i, e, f), force) = (r, slice_get-contains spec.rules i r f, at_rule spec r 0 (left_of r) j by_rule c force refl)
+  only_value : (number : ℕ) (e : Expr) (v w : Plain) → ComesTo number e v → IsValue spec sets env t A n by_rule number e w → w ≡ v
+  only_value number e v w h (q, tail, there, tails, is) = is ∙ subst (λ q. value spec sets env t A by_rule q number n tail e ≡ v) (at_rule spec t n r q at there) (h tail)
 
--- where no rule has a plain computation, none is in force
-pub no_messages : (spec : Spec) → AllByRecursion (λ (r : RuleItem). messages_of r ≡ []) spec.rules → (t : Tree Plain) (n j : ℕ) (c : Comp) → ¬ InForceAt spec t n (Message j) by_rule c
-no_messages spec none t n j c force = let found = in_force spec t n j c force in refuse (messages_of found.0) found.2.0 (every (λ (r : RuleItem). messages_of r ≡ []) spec.rules none found.0 found.1) found.2.2
-  where
-    refuse : (cs : List Comp) (i : ℕ) → cs ≡ [] → ¬ (slice_get cs i ≡ Some c)
-    refuse [] i e f = cc
-    refuse (x ∷ xs) i e f = cc
+  pub has_value : (number : ℕ) (e : Expr) (v : Plain) → ComesTo number e v → IsValue spec sets env t A n by_rule number e v
+  has_value number e v h = let found = a_value spec sets env t A n r by_rule number e at in
+      subst (IsValue spec sets env t A n by_rule number e) (only_value number e v found.0 h found.1) found.1
+
+  module _ (c : Comp) (s : Severity) where
+    pub gives_text : (u : Plain) → c.target ≡ target.Message s None → ComesTo c.number c.value u → IsMessage spec sets env t A n c u
+    gives_text u is h = unconditional is (has_value c.number c.value u h)
+
+    pub only_text : (u v : Plain) → c.target ≡ target.Message s None → ComesTo c.number c.value u → IsMessage spec sets env t A n c v → v ≡ u
+    only_text u v is h (unconditional e x) = only_value c.number c.value u v h x
+    only_text u _ is h (conditional e x y) = cc
+
+    pub gives : (e : Expr) (b u : Plain) → c.target ≡ target.Message s (Some e) → ComesTo c.number e b → ComesTo c.number c.value u → IsMessage spec sets env t A n c (chosen (b ∷ u ∷ Void ∷ []))
+    gives e b u is h k = conditional is (has_value c.number e b h) (has_value c.number c.value u k)
+
+    pub only : (e : Expr) (b u v : Plain) → c.target ≡ target.Message s (Some e) → ComesTo c.number e b → ComesTo c.number c.value u → IsMessage spec sets env t A n c v → v ≡ chosen (b ∷ u ∷ Void ∷ [])
+    only e b u v is h k (unconditional f x) = cc
+    only e b u _ is h k (conditional {e = d} {condition = p} {text = q} f x y) =
+        let same : d ≡ e = cc in
+        let conditions : p ≡ b = only_value c.number e b p h (subst (λ d. IsValue spec sets env t A n by_rule c.number d p) same x) in
+        let texts : q ≡ u = only_value c.number c.value u q k y in
+        λ i. chosen (conditions i ∷ texts i ∷ Void ∷ [])

@@ -7,3 +7,5 @@ pub mod SumOfItems
 pub mod NestedStart
 pub mod NumberedList
 pub mod HandedDown
+pub mod Coordinates
+pub mod Messages

@@ -1,6 +1,6 @@
 -- How the specifications of the trials are written: names, expressions, rules and trees. All places are 0, and a name is a
 -- number: those below 20 are texts of functions, from 20 on stand symbols, from 30 on attributes and chains.
-use Rattle.std.specs.Prelude.{ℕ, pos, Bool, true, false, ◌&&◌, List, [], ◌∷◌, map, Some, None, option_map, find, nat_eq, codes}
+use Rattle.std.specs.Prelude.{ℕ, pos, Bool, true, false, ◌&&◌, List, [], ◌∷◌, ◌++◌, map, Option, Some, None, option_map, find, nat_eq, codes}
 use Rattle.lido_base.specs.declared.value.ValueType.{ValueType}
 use Rattle.lido_base.specs.declared.value.ValueType.TheVariants as type
 use Rattle.lido_base.specs.Plain.{Plain}
@@ -16,6 +16,7 @@ use Rattle.lido_syntax.specs.declared.spec.Typed1.{Typed1}
 use Rattle.lido_syntax.specs.declared.spec.Pair.{Pair}
 use Rattle.lido_syntax.specs.declared.spec.With.{With}
 use Rattle.lido_syntax.specs.declared.spec.RuleItem.{RuleItem}
+use Rattle.lido_syntax.specs.declared.spec.Severity.{Severity}
 use Rattle.lido_syntax.specs.declared.spec.SymbolItem.{SymbolItem}
 use Rattle.lido_syntax.specs.declared.spec.Target.{Target}
 use Rattle.lido_syntax.specs.declared.spec.Target.TheVariants as target
@@ -67,11 +68,34 @@ function_texts =
 abbrev pub env : Environment
 env = record { texts = function_texts; patterns = [] }
 
+-- the words of coordinates, an operator, and texts of messages
+abbrev pub LINE : ℕ
+LINE = 11
+
+abbrev pub COL : ℕ
+COL = 12
+
+abbrev pub EQ : ℕ
+EQ = 13
+
+abbrev pub top_text : ℕ
+top_text = 14
+
+abbrev pub one_text : ℕ
+one_text = 15
+
+-- the functions, and these
+abbrev pub env_of_messages : Environment
+env_of_messages = record { texts = function_texts ++ codes "LINE" ∷ codes "COL" ∷ codes "EQ" ∷ codes "top" ∷ codes "one" ∷ []; patterns = [] }
+
 abbrev pub name : ℕ → Name
 name s = record { at = 0; id = record { 0 = s } }
 
 abbrev pub int : ℕ → Expr
 int n = expr.Int 0 (pos n)
+
+abbrev pub str : ℕ → Expr
+str s = expr.Str 0 (record { 0 = s })
 
 abbrev pub call : ℕ → List Expr → Expr
 call f args = expr.Call (name f) args
@@ -105,6 +129,10 @@ in_a_row = record { ty = type.Text; comb = name PTGSeq; single = name IDENTICAL;
 -- target = value
 abbrev pub comp : ℕ → Target → Expr → Comp
 comp number target value = record { at = 0; number = number; target = target; value = value; after = [] }
+
+-- message(severity, text, 0, COORDREF), and with a condition IF(condition, ..)
+abbrev pub message : ℕ → Severity → Option Expr → Expr → Comp
+message number severity condition text = comp number (target.Message severity condition) text
 
 abbrev pub attr : Place → ℕ → Target
 attr p a = target.Attr p (name a)
@@ -141,6 +169,10 @@ root r items = record { rule = r; parent = None; place = 0; line = 0; column = 0
 
 abbrev pub node : ℕ → ℕ → ℕ → List (Item Plain) → Node Plain
 node r parent place items = record { rule = r; parent = Some parent; place = place; line = 0; column = 0; items = items }
+
+-- the node with this line and column
+abbrev pub placed : ℕ → ℕ → Node Plain → Node Plain
+placed line column n = record n { line = line; column = column }
 
 abbrev pub is_slot : Slot → Slot → Bool
 is_slot (Attribute a) (Attribute b) = nat_eq a b

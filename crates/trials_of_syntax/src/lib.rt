@@ -5,17 +5,21 @@
 #![tactic(auto)]
 
 mod chains;
+mod coordinates;
 mod expressions;
 mod inherited;
+mod messages;
 mod remote_access;
 mod symbol_computations;
 mod whole;
 
 pub use chains::{nested_start, numbered_list, tails};
+pub use coordinates::line_and_column;
 pub use expressions::values_of_expressions;
 pub use inherited::{
     complete_right_sides, computing_nodes, inherited_kinds, listed_class, values_handed_down,
 };
+pub use messages::{conditions_of_messages, messages_and_least_faults};
 pub use remote_access::{nested_depths, shielded_sums};
 pub use symbol_computations::{
     attribute_of_a_class, chain_of_a_symbol, class_of_a_class, class_symbol_rule, two_classes_left,

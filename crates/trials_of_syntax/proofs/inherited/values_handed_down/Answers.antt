@@ -20,10 +20,10 @@ use Rattle.lido_syntax.specs.Chains.{value_by, IsComputed}
 use Rattle.lido_syntax.specs.Attribution.{IsInstance, IsAttribution}
 use Rattle.lido_syntax.specs.Output.{IsOutput, WentWrong, in_output, in_attribute, in_message}
 use Rattle.lido_syntax.proofs.ExpressionLemmas.{value-Call}
+use Rattle.lido_syntax.proofs.MessageLemmas.{message_listed}
 use Rattle.trials_of_syntax.specs.HandedDown.{spec, tree, rows, handed, of_the_sibling, of_the_child, zero_divisor, top_rule, left_rule, right_rule, three, five, quotient, out, Left, Right, i}
 use Rattle.trials_of_syntax.specs.Writing.{env}
 use Rattle.trials_of_syntax.proofs.Members.{some_same}
-use Rattle.trials_of_syntax.proofs.MessageLemmas.{no_messages}
 use Rattle.trials_of_syntax.proofs.Tables.{each_row, each_value}
 use Rattle.trials_of_syntax.proofs.HandedDownLemmas.{by_node, only_handed, int_handed, has_left, has_right, type_left, computed, three_in_force, quotient_in_force, right_inherits, reaches_right, reaches_no_left, ReadsNoTail, no_tail_in_three, no_tail_in_five, no_tail_in_quotient, no_tail_in_out}
 use Rattle.trials_of_syntax.proofs.inherited.values_handed_down.Goals as goal
@@ -116,7 +116,7 @@ module _ (sets : Sets spec) where
   -- of the two faults that at the root is the least
   least : (o : Origin) → WentWrong spec sets env tree handed (Bad (zero_divisor 0 2)) o → IsAtMost (zero_divisor 0 2) o
   least o (in_output e) = subst (IsAtMost (zero_divisor 0 2)) (bad_same (zero_divisor 0 2) o e) (inr (refl, inr (refl, omega arith)))
-  least o (in_message m j c force is) = absurd (no_messages spec (refl, (refl, (refl, tt))) tree m j c force)
+  least o (in_message m j c force is) = absurd (omega (arith, (message_listed spec tree m j c force).1))
   least o (in_attribute m a e) = each_value (λ v. v ≡ Bad o → IsAtMost (zero_divisor 0 2) o) rows
       ((λ f. cc), ((λ f. cc), ((λ f. subst (IsAtMost (zero_divisor 0 2)) (bad_same (zero_divisor 2 4) o f) (inl (omega arith))), tt))) m (Attribute a) (Bad o) e refl
 

@@ -24,11 +24,11 @@ use Rattle.lido_syntax.specs.Chains.{value_by, IsComputed}
 use Rattle.lido_syntax.specs.Attribution.{IsInstance, IsAttribution}
 use Rattle.lido_syntax.specs.Output.{IsOutput, WentWrong, in_output, in_attribute, in_message}
 use Rattle.lido_syntax.proofs.ExpressionLemmas.{value-Call}
+use Rattle.lido_syntax.proofs.MessageLemmas.{message_listed}
 use Rattle.trials_of_syntax.specs.SumOfItems.{spec, tree, empty_tree, numbers, wrong_numbers, too_many_numbers, top_rule, item_rule, sum, out, number, Top, Item, n}
 use Rattle.trials_of_syntax.specs.Writing.{env, Row}
 use Rattle.trials_of_syntax.proofs.Members.{every, apart}
 use Rattle.trials_of_syntax.proofs.RulesOnly.{only_rules, reaches-true}
-use Rattle.trials_of_syntax.proofs.MessageLemmas.{no_messages}
 use Rattle.trials_of_syntax.proofs.Tables.{each_row, each_value}
 use Rattle.trials_of_syntax.proofs.SumOfItemsLemmas.{by_node, only_number, int_number, has_number, type_number, no_tail_in_out}
 use Rattle.trials_of_syntax.proofs.whole.sum_of_items.Goals as goal
@@ -128,7 +128,7 @@ module _ (sets : Sets spec) where
   right : (o : Origin) → ¬ WentWrong spec sets env tree numbers (Text (codes "11")) o
   right o (in_output e) = no_bad_text (codes "11") o e
   right o (in_attribute m a e) = good m a o e
-  right o (in_message m j c force is) = no_messages spec (refl, (refl, tt)) tree m j c force
+  right o (in_message m j c force is) = omega (arith, (message_listed spec tree m j c force).1)
 
   six_alone : (A : Assignment) (v : Plain) → IsComputed spec sets env tree A 2 by_rule number v → v ≡ Int (pos 6)
   six_alone A v (r, tail, at, tails, e) = e ∙ by_node (λ m r. m ≡ 2 → value_by spec sets env tree A tail m by_rule r number ≡ Int (pos 6)) (λ same. cc) (λ same. cc) (λ same. refl) 2 r at refl

@@ -1,6 +1,5 @@
 -- A computation has one value at a node, also where it reads TAIL.
-use Rattle.std.specs.Prelude.{Contains, slice_get}
-use Rattle.std.proofs.Common.{◌≡◌, ℕ, zero, suc, inl, inr, List, [], ◌∷◌, ◌++◌, Some, refl, arith, ap, sym, subst, ◌∙◌}
+use Rattle.std.proofs.Common.{◌≡◌, ℕ, inl, inr, List, [], ◌∷◌, ◌++◌, refl, ap, sym, subst, ◌∙◌}
 use Rattle.lido_base.specs.Plain.{Plain, Void}
 use Rattle.lido_base.specs.Tree.{Tree}
 use Rattle.lido_base.proofs.Lists.{place-contains}

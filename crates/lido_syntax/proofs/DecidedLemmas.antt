@@ -1,12 +1,12 @@
 -- Whether a computation is in force can be decided, so each expression of a computation has a value at each node that has a rule.
-use Rattle.std.specs.Prelude.{Contains, Bool, true, false, IsTrue, ◌||◌, nat_eq, map, flat_map, filter, slice_get, if◌then◌else◌, MatchBool}
+use Rattle.std.specs.Prelude.{Contains, Bool, true, false, IsTrue, nat_eq, map, flat_map, filter, slice_get, if◌then◌else◌, MatchBool}
 use Rattle.std.proofs.Common.{◌≡◌, ℕ, zero, suc, ◌⊎◌, inl, inr, List, [], ◌∷◌, ◌++◌, Option, Some, None, refl, arith, ap, subst, sym, ◌∙◌, eqb-true, eq-eqb}
 use Rattle.lido_base.specs.Environment.{Environment}
 use Rattle.lido_base.specs.Plain.{Plain, Void}
 use Rattle.lido_base.specs.Tree.{Tree, contains, children, rule_at}
 use Rattle.std.proofs.lemmas.Option.{same_Some}
 use Rattle.lido_base.proofs.Lists.{flat-contains}
-use Rattle.lido_base.proofs.TreeLemmas.{contains-cons, contains-test, test-contains}
+use Rattle.lido_base.proofs.TreeLemmas.{contains-cons, contains-test}
 use Rattle.lido_syntax.specs.declared.spec.Spec.{Spec}
 use Rattle.lido_syntax.specs.declared.spec.Comp.{Comp}
 use Rattle.lido_syntax.specs.declared.spec.Expr.{Expr}

@@ -1,29 +1,25 @@
 -- The messages of a tree are those in force, and an attributed tree has one output, one text of notes and one result.
-use Rattle.std.specs.Prelude.{Contains, IsTrue, slice_get, flat_map, Option, Some, None, option_map, option_and_then, Result, Ok, Err}
+use Rattle.std.specs.Prelude.{Contains, slice_get, Option, Some, None, option_map, option_and_then, Result, Ok, Err}
 use Rattle.std.specs.Option.{option_map_or}
 use Rattle.std.specs.List.{AllZip, concat, range_with_len}
-use Rattle.std.proofs.Common.{◌≡◌, ℕ, zero, suc, ◌<◌, ◌≤◌, ◌+◌, inl, inr, ◌⊎◌, List, [], ◌∷◌, ◌++◌, length, map, refl, arith, ap, subst, sym, ◌∙◌}
+use Rattle.std.proofs.Common.{◌≡◌, ℕ, zero, suc, ◌<◌, ◌≤◌, ◌+◌, inl, inr, ◌⊎◌, List, [], ◌∷◌, length, map, refl, arith, ap, subst, sym, ◌∙◌}
 use Rattle.std.proofs.lemmas.Bool.{cases_lt}
 use Rattle.lido_base.specs.declared.value.Origin.{Origin}
 use Rattle.lido_base.specs.Environment.{Environment}
-use Rattle.lido_base.specs.Plain.{Plain, Void, Bad, Str, Text}
+use Rattle.lido_base.specs.Plain.{Plain, Void, Str, Text}
 use Rattle.lido_base.specs.Operations.{chosen}
 use Rattle.lido_base.specs.Tree.{Tree, Node, rule_at}
 use Rattle.lido_base.proofs.Lists.{contains-here, contains-later, map-contains, contains-map, flat-contains, contains-flat, contains-place, place-contains}
 use Rattle.lido_base.proofs.OriginsLemmas.{antisymmetric}
 use Rattle.lido_syntax.specs.declared.spec.Spec.{Spec}
 use Rattle.lido_syntax.specs.declared.spec.Comp.{Comp}
-use Rattle.lido_syntax.specs.declared.spec.Expr.{Expr}
 use Rattle.lido_syntax.specs.declared.spec.RuleItem.{RuleItem}
-use Rattle.lido_syntax.specs.declared.spec.Severity.{Severity}
-use Rattle.lido_syntax.specs.declared.spec.Target.{Target}
-use Rattle.lido_syntax.specs.declared.spec.Target.TheVariants as target
 use Rattle.lido_syntax.specs.Assignment.{Assignment}
 use Rattle.lido_syntax.specs.Production.{left_of}
 use Rattle.lido_syntax.specs.Sets.{Sets}
 use Rattle.lido_syntax.specs.Completeness.{IsSingle}
 use Rattle.lido_syntax.specs.Computation.{Holder, by_rule, Message, Output, messages_of, InForce, of_rule, of_symbol, of_class}
-use Rattle.lido_syntax.specs.Nodes.{InForceAt, HasInForce}
+use Rattle.lido_syntax.specs.Nodes.{InForceAt}
 use Rattle.lido_syntax.specs.Chains.{IsValue}
 use Rattle.lido_syntax.specs.Messages.{IsMessage, unconditional, conditional, IsNote, silent, written, AreNotes, all_messages, message_bytes}
 use Rattle.lido_syntax.specs.Output.{IsOutput, WentWrong, IsResult}

@@ -1,6 +1,6 @@
 -- What a plain computation gives at a node, from the values of its condition and its text.
-use Rattle.std.specs.Prelude.{Some, None, Option}
-use Rattle.std.proofs.Common.{◌≡◌, ℕ, [], ◌∷◌, refl, subst, sym, ◌∙◌}
+use Rattle.std.specs.Prelude.{Some, None}
+use Rattle.std.proofs.Common.{◌≡◌, ℕ, [], ◌∷◌, subst, ◌∙◌}
 use Rattle.lido_base.specs.Environment.{Environment}
 use Rattle.lido_base.specs.Operations.{chosen}
 use Rattle.lido_base.specs.Plain.{Plain, Void}

@@ -48,8 +48,11 @@ y_rule = plain_rule Y [] []
 abbrev pub z_rule : RuleItem
 z_rule = plain_rule Z [] []
 
+abbrev pub top_rule : RuleItem
+top_rule = plain_rule Top (X ∷ Y ∷ Z ∷ []) []
+
 abbrev pub rules : List RuleItem
-rules = plain_rule Top (X ∷ Y ∷ Z ∷ []) [] ∷ x_rule ∷ y_rule ∷ z_rule ∷ []
+rules = top_rule ∷ x_rule ∷ y_rule ∷ z_rule ∷ []
 
 abbrev pub with_symbols : List SymbolItem → Spec
 with_symbols items = record { rules = rules; symbols = items; attrs = declaration v type.Int ∷ []; terms = []; chains = [] }

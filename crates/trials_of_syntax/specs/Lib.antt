@@ -9,3 +9,5 @@ pub mod NumberedList
 pub mod HandedDown
 pub mod Coordinates
 pub mod Messages
+pub mod TwoSides
+pub mod TerminalHeir

@@ -36,10 +36,12 @@ pub fn tails()
     ensures started { (sets : Sets spec) → IsTail spec sets env empty_tree counted no 0 (Int (pos 1)) }
 {}
 
-/// A chain numbers the lines of a list from its start on: 1, 2 and 3, and the output is the three lines.
+/// A chain numbers the lines of a list from its start on: 1, 2 and 3, and the output is the three lines. A VOID chain keeps
+/// no numbers.
 pub fn numbered_list()
     ensures threaded { (sets : Sets spec) → IsThreaded spec sets env three_lines three_counted no type_of.Int }
     ensures no_repeat { (sets : Sets spec) → ¬ IsThreaded spec sets env three_lines three_stuck no type_of.Int }
+    ensures void { (sets : Sets spec) → ¬ IsThreaded spec sets env three_lines three_counted no type_of.Void }
     ensures first { (sets : Sets spec)
         → value spec sets env three_lines three_counted by_rule item_rule 3 1 (λ c. Void) line.value ≡ of_line (codes "1 a") }
     ensures second { (sets : Sets spec)

@@ -20,13 +20,14 @@ pub use inherited::{
     complete_right_sides, computing_nodes, inherited_kinds, listed_class, values_handed_down,
 };
 pub use messages::{conditions_of_messages, messages_and_least_faults};
-pub use remote_access::{nested_depths, shielded_sums};
+pub use remote_access::{nested_depths, pairs_of_remote_lists, shielded_sums};
 pub use symbol_computations::{
-    attribute_of_a_class, chain_of_a_symbol, class_of_a_class, class_symbol_rule, two_classes_left,
+    attribute_of_a_class, chain_of_a_symbol, class_of_a_class, class_symbol_rule,
+    goals_of_an_occurrence, two_classes_left,
 };
 pub use whole::{
     attribute_of_an_item, complete_specification, fitting_trees, incomplete_specification,
-    sum_of_items,
+    sum_of_items, two_sides,
 };
 
 #[cfg(test)]

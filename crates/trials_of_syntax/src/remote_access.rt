@@ -1,10 +1,16 @@
 //! INCLUDING and CONSTITUENTS.
-ghost use Rattle.std.specs.Prelude.{◌≡◌, pos, Some, None};
-ghost use Rattle.lido_base.specs.Plain.{Int};
-ghost use Rattle.lido_syntax.specs.Including.{up};
+ghost use Rattle.std.specs.Prelude.{◌≡◌, ℕ, pos, Some, None, [], ◌∷◌};
+ghost use Rattle.lido_base.specs.Plain.{Int, Void};
+ghost use Rattle.lido_syntax.specs.declared.spec.Cons.{Cons as Constituents};
+ghost use Rattle.lido_syntax.specs.Assignment.{Assignment};
+ghost use Rattle.lido_syntax.specs.Constituents.{constituents_at};
+ghost use Rattle.lido_syntax.specs.Including.{listed, up};
 ghost use Rattle.lido_syntax.specs.Sets.{Sets};
 ghost use Rattle.trials_of_syntax.specs.NestedDepths as depths;
+ghost use Rattle.trials_of_syntax.specs.HandedDown as handed;
 ghost use Rattle.trials_of_syntax.specs.ShieldedSums as sums;
+ghost use Rattle.trials_of_syntax.specs.TerminalHeir as heir;
+ghost use Rattle.trials_of_syntax.specs.Writing.{env, pair};
 
 /// Below a block of 1 that holds blocks of 20 and 300 a shielded sum takes the first block alone, and one without a shield
 /// all three. A shield that is no source gives nothing.
@@ -24,4 +30,17 @@ pub fn nested_depths()
     ensures found { (sets : Sets depths.spec) → up depths.spec sets depths.tree depths.pairs 3 ≡ Some (2, 30) }
     ensures above { (sets : Sets depths.spec) → up depths.spec sets depths.tree depths.pairs 1 ≡ Some (0, 30) }
     ensures nothing { (sets : Sets depths.spec) → up depths.spec sets depths.tree depths.pairs 0 ≡ None }
+{}
+
+/// Of several pairs that stand for a symbol the first counts, the class's or the symbol's own. A terminal that inherits a class
+/// isn't what the class stands for. Without a WITH there is no value.
+pub fn pairs_of_remote_lists()
+    ensures symbol_first { (sets : Sets handed.spec)
+        → listed handed.spec sets (pair handed.Right 40 ∷ pair handed.Five handed.i ∷ []) handed.Right ≡ Some 40 }
+    ensures class_first { (sets : Sets handed.spec)
+        → listed handed.spec sets (pair handed.Five handed.i ∷ pair handed.Right 40 ∷ []) handed.Right ≡ Some handed.i }
+    ensures terminal_heir { (sets : Sets heir.spec) (A : Assignment)
+        → constituents_at heir.spec sets env heir.tree A heir.k 0 heir.k.with ≡ Int (pos 0) }
+    ensures without_a_with { (sets : Sets handed.spec) (A : Assignment) (k : Constituents) (n : ℕ)
+        → constituents_at handed.spec sets env handed.tree A k n None ≡ Void }
 {}

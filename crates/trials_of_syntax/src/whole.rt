@@ -3,6 +3,7 @@ ghost use Rattle.std.specs.Prelude.{◌≡◌, ℕ, pos, codes, Ok, []};
 ghost use Rattle.lido_base.specs.Plain.{Int};
 ghost use Rattle.lido_base.specs.declared.kinds.Kind.TheVariants as kind;
 ghost use Rattle.lido_base.specs.declared.value.ValueType.TheVariants as type_of;
+ghost use Rattle.lido_syntax.specs.Assignment.{Assignment};
 ghost use Rattle.lido_syntax.specs.Attributes.{Has, HasKind, HasType};
 ghost use Rattle.lido_syntax.specs.Attribution.{IsAttribution};
 ghost use Rattle.lido_syntax.specs.Completeness.{IsComplete};
@@ -11,6 +12,7 @@ ghost use Rattle.lido_syntax.specs.Fitting.{IsFitting};
 ghost use Rattle.lido_syntax.specs.Output.{IsResult};
 ghost use Rattle.lido_syntax.specs.Sets.{Sets};
 ghost use Rattle.trials_of_syntax.specs.SumOfItems.{Item, n, sum, spec, undeclared, without_a_number, tree, empty_tree, number_in_a_list, item_at_the_root, item_without_a_number, numbers, wrong_numbers, too_many_numbers};
+ghost use Rattle.trials_of_syntax.specs.TwoSides as two;
 ghost use Rattle.trials_of_syntax.specs.Writing.{env};
 
 /// An item has its number alone: an int, as ATTR says, else VOID, and synthesized by the side of its target.
@@ -30,6 +32,12 @@ pub fn complete_specification()
 /// Without the computation of the items' numbers it isn't.
 pub fn incomplete_specification()
     ensures { ¬ IsComplete without_a_number }
+{}
+
+/// Nor is one whose rules compute an attribute on both sides; no values meet its equations.
+pub fn two_sides()
+    ensures not_complete { ¬ IsComplete two.spec }
+    ensures no_values { (sets : Sets two.spec) (A : Assignment) → ¬ IsAttribution two.spec sets env two.tree A }
 {}
 
 /// A list of two items fits, and an empty one; a number in the list doesn't, nor an item at the root, nor one without a number.

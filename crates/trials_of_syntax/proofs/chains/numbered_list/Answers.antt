@@ -10,14 +10,14 @@ use Rattle.lido_syntax.specs.declared.spec.Place.TheVariants as place
 use Rattle.lido_syntax.specs.Sets.{Sets}
 use Rattle.lido_syntax.specs.Assignment.{Slot, Front, Behind}
 use Rattle.lido_base.specs.declared.value.ValueType.TheVariants as type
-use Rattle.lido_syntax.specs.Computation.{Holder, by_rule}
+use Rattle.lido_syntax.specs.Computation.{Holder, by_rule, of_rule}
 use Rattle.lido_syntax.specs.Computation as goals
 use Rattle.lido_syntax.specs.Constituents.{weight_of}
 use Rattle.lido_syntax.specs.Nodes.{IsAt, InForceAt, HasInForce}
 use Rattle.lido_syntax.specs.Chains.{value_by, IsStart, IsComputed, IsThreaded}
 use Rattle.lido_syntax.proofs.ExpressionLemmas.{value-Call}
 use Rattle.trials_of_syntax.proofs.Tables.{each_row, none_from}
-use Rattle.trials_of_syntax.specs.NestedStart.{env, spec, item_rule, next, all_lines, Item, no}
+use Rattle.trials_of_syntax.specs.NestedStart.{env, spec, top_rule, from_one, item_rule, next, all_lines, Item, no}
 use Rattle.trials_of_syntax.specs.NumberedList.{tree, rows, counted, stuck}
 use Rattle.trials_of_syntax.proofs.NestedStartLemmas.{adjacent, same_head, not_empty, none_at_end, no_tail_in_next}
 use Rattle.trials_of_syntax.proofs.NumberedListLemmas.{IsLine, starts, start_at_top, assigns, next_in_force}
@@ -113,6 +113,9 @@ module _ (sets : Sets spec) where
   no_repeat : ¬ IsThreaded spec sets env tree stuck no type.Int
   no_repeat h = let wrong : Some (Int (pos 2)) ≡ Some (Int (pos 3)) = h.later_child 0 2 3 (1 ∷ []) [] refl in cc
 
+  void : ¬ IsThreaded spec sets env tree counted no type.Void
+  void h = let wrong : Some (Int (pos 1)) ≡ Some Void = h.first_child 0 1 (2 ∷ 3 ∷ []) (Int (pos 1)) refl (by_rule, from_one, top_rule, (top_rule, (0, refl, refl), of_rule (refl, tt) ((0, omega arith, refl), refl)), (0, refl, refl), refl) in cc
+
   reach_all : sets.reaches all_lines Item ≡ true
   reach_all = reaches-true spec.rules spec.attrs spec.terms spec.chains sets all_lines Item (source refl)
 
@@ -121,6 +124,7 @@ unfolding operate digits from_children weight_of
 returns c = record {
   threaded = threaded;
   no_repeat = no_repeat;
+  void = void;
   first = λ sets. simp (value-Call spec sets env tree counted by_rule item_rule 3 1 (λ c. Void)) refl;
   second = λ sets. simp (value-Call spec sets env tree counted by_rule item_rule 3 2 (λ c. Void)) refl;
   third = λ sets. simp (value-Call spec sets env tree counted by_rule item_rule 3 3 (λ c. Void)) refl;

@@ -1,4 +1,4 @@
-use Rattle.std.specs.Prelude.{◌≡◌, ℕ, List, [], ◌∷◌, Some, true, false, pos, codes, refl}
+use Rattle.std.specs.Prelude.{◌≡◌, ℕ, List, [], true, false, pos, codes, refl}
 use Rattle.lido_base.specs.Operations.{operate}
 use Rattle.lido_base.specs.Plain.{Plain, Int, Truth, Str, Bad, Void}
 use Rattle.lido_syntax.specs.declared.spec.Expr.TheVariants as expr

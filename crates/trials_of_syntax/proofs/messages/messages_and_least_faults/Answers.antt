@@ -1,6 +1,6 @@
-use Rattle.std.specs.Prelude.{◌≡◌, ℕ, List, [], ◌∷◌, Some, None, Contains, true, false, pos, codes, refl}
+use Rattle.std.specs.Prelude.{◌≡◌, ℕ, List, [], ◌∷◌, Contains, true, false, pos, codes, refl}
 use Rattle.std.specs.Fmt.{digits}
-use Rattle.std.proofs.Common.{arith, subst, sym, ◌∙◌, inl, inr}
+use Rattle.std.proofs.Common.{arith, subst, sym, inl, inr}
 use Rattle.lido_base.specs.declared.value.Origin.{Origin}
 use Rattle.lido_base.specs.Operations.{operate, chosen}
 use Rattle.lido_base.specs.Origins.{IsAtMost}
@@ -9,7 +9,7 @@ use Rattle.lido_syntax.specs.declared.spec.Comp.{Comp}
 use Rattle.lido_syntax.specs.declared.spec.Expr.{Expr}
 use Rattle.lido_syntax.specs.declared.spec.RuleItem.{RuleItem}
 use Rattle.lido_syntax.specs.declared.spec.Severity.TheVariants.{Note, Warning, Error}
-use Rattle.lido_syntax.specs.Assignment.{Assignment, Attribute}
+use Rattle.lido_syntax.specs.Assignment.{Attribute}
 use Rattle.lido_syntax.specs.Computation.{by_rule, of_rule}
 use Rattle.lido_syntax.specs.Messages.{IsMessage, silent, written, message_bytes, AreNotes, all_messages}
 use Rattle.lido_syntax.specs.Nodes.{IsAt}

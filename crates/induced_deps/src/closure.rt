@@ -36,7 +36,7 @@ impl Closure {
     }
 
     /// Adds edges from a vertex to all vertices of the set. What follows from them isn't added.
-    pub fn join(&mut self, from: usize, set: &Row)
+    pub fn add(&mut self, from: usize, set: &Row)
         requires { from < length self.old.rows.items }
         ensures size { length self.new.rows.items ≡ length self.old.rows.items }
         ensures edges { Gains self.old.rows.items self.new.rows.items (FromOne from set.now.words) }
@@ -119,7 +119,7 @@ impl Closure {
 
     /// Adds edges from a vertex to all vertices of the set, and all that follow, where a path of two edges is an edge and stays one:
     /// what comes behind the set goes into the row of the vertex and into those of all that come before it.
-    pub fn join_closed(&mut self, from: usize, set: &Row)
+    fn add_closed(&mut self, from: usize, set: &Row)
         requires vertex { from < length self.old.rows.items }
         requires small { from < 1024 }
         requires transitive { IsTransitive self.old.rows.items }
@@ -129,6 +129,22 @@ impl Closure {
     {
         let all = self.with_behind(set);
         self.join_before(from, &all);
+    }
+
+    /// Adds edges from a vertex to all vertices of the set, and where `closed` all that follow.
+    pub fn join(&mut self, from: usize, set: &Row, closed: bool)
+        requires vertex { from < length self.old.rows.items }
+        requires small { from < 1024 }
+        requires transitive { IsTrue closed → IsTransitive self.old.rows.items }
+        ensures size { length self.new.rows.items ≡ length self.old.rows.items }
+        ensures transitive { IsTrue closed → IsTransitive self.new.rows.items }
+        ensures edges { Gains self.old.rows.items self.new.rows.items (FromOne from set.now.words) }
+    {
+        if closed {
+            self.add_closed(from, set);
+        } else {
+            self.add(from, set);
+        }
     }
 
     /// Adds all edges that follow: then a path of two edges is an edge. The vertices are taken from the last to the first, each with

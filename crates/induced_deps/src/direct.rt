@@ -61,7 +61,7 @@ fn add_edges(places: &[Place], before: &[Occ], goal: Occ, closure: &mut Closure)
 {
     let goal = only(number(places, goal));
     for u in before {
-        closure.join(number(places, *u), &goal);
+        closure.add(number(places, *u), &goal);
     }
 }
 

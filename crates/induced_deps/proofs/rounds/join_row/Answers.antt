@@ -14,7 +14,7 @@ returns-then-not-is_within-clause-edges c =
     let within : from < length old = omega (arith, c.requires.within, c.requires.attribute) in
     let same : slice_index_or old from no_row ≡ c.index.result.now = row_read old from c.index.result.now c.index.result.now within c.index.ensures in
     row_joined old p from c.args.row c.attributes_of-known.result (subst (λ (r : Row). (b : ℕ) → IsBitSet c.attributes_of-known.result b ↔ ((b < p.width) × IsIn r.words (p.offset + b))) (sym same) c.attributes_of-known.ensures)
-    c.join_closed.new.self.rows.items c.without.result c.vertices_of.result.words c.without.ensures c.vertices_of.ensures c.join_closed.ensures.edges
+    c.join.new.self.rows.items c.without.result c.vertices_of.result.words c.without.ensures c.vertices_of.ensures c.join.ensures.edges
 
 pub returns-else-not-is_within-clause-edges : goal.returns-else-not-is_within-clause-edges
 returns-else-not-is_within-clause-edges c =

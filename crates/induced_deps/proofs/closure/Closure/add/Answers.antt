@@ -3,7 +3,7 @@ use Rattle.std.specs.Prelude.{slice_index_or, ◌↔◌}
 use Rattle.induced_deps.specs.declared.row.Row.{Row}
 use Rattle.induced_deps.specs.Rows.{IsIn, no_row}
 use Rattle.induced_deps.proofs.ClosureLemmas.{join_gains, row_read}
-use Rattle.induced_deps.proofs.closure.Closure.join.Goals as goal
+use Rattle.induced_deps.proofs.closure.Closure.add.Goals as goal
 
 pub returns-clause-edges : goal.returns-clause-edges
 returns-clause-edges c =

@@ -47,19 +47,18 @@ pub open_goes : (end at : ℕ) (held more : List ℕ) (parts : List Part) → at
 open_goes end at held more parts place = (on, λ s. back (split end 40 more parts refl s))
   where
     on : Begun (phase.Opened at) held end more parts → Spells end parts (40 ∷ more)
-    on (name_at, name, rest, later, e, stands, is, spells) = subst (λ (l : List Part). Spells end l (40 ∷ more)) (sym e) (rest, (more, refl, place, stands, is), spells)
+    on (name_at, name, beyond, stands, is, (coordinates, rest, later, e, has, spells)) =
+        subst (λ (l : List Part). Spells end l (40 ∷ more)) (sym e) (rest, (more, beyond, refl, place, stands, is, has), spells)
 
     back : Splits end 40 more parts → Begun (phase.Opened at) held end more parts
-    back (part.Begin from name_at name, later, rest, e, (inner, is, stands, name_stands, named), spells) =
+    back (part.Begin from name_at name coordinates, later, rest, e, (inner, beyond, is, stands, name_stands, named, has), spells) =
         let same : from ≡ at = omega (arith, place, stands) in (
           name_at,
           name,
-          rest,
-          later,
-          e ∙ ap (λ (n : ℕ). part.Begin n name_at name ∷ later) same,
+          beyond,
           subst (λ (l : List ℕ). StandsAt end name_at (behind is_white l)) (sym (tail_of is)) name_stands,
-          subst (λ (l : List ℕ). IsName (behind is_white l) name rest) (sym (tail_of is)) named,
-          spells,
+          subst (λ (l : List ℕ). IsName (behind is_white l) name beyond) (sym (tail_of is)) named,
+          (coordinates, rest, later, e ∙ ap (λ (n : ℕ). part.Begin n name_at name coordinates ∷ later) same, has, spells),
         )
     back (part.Int from z, later, rest, e, (stands, int), spells) = absurd (omega (arith, int.some))
     back (part.Str from text, later, rest, e, (stands, string), spells) = absurd (let wrong = head_of string.opened in omega (arith, wrong))
@@ -74,7 +73,7 @@ minus_goes end at held more parts place = (on, λ s. back (split end 45 more par
         (behind is_digit more, (place, record { some = some; value = value; fits = fits; after = refl }), spells)
 
     back : Splits end 45 more parts → Begun (phase.Minus at) held end more parts
-    back (part.Begin from name_at name, later, rest, e, (inner, is, stands, name_stands, named), spells) = absurd (let wrong = head_of is in omega (arith, wrong))
+    back (part.Begin from name_at name coordinates, later, rest, e, (inner, beyond, is, stands, name_stands, named, has), spells) = absurd (let wrong = head_of is in omega (arith, wrong))
     back (part.Int from z, later, rest, e, (stands, int), spells) =
         let same : from ≡ at = omega (arith, place, stands) in
         (z, later, e ∙ ap (λ (n : ℕ). part.Int n z ∷ later) same, int.some, int.value, int.fits, subst (λ (l : List ℕ). Spells end later l) int.after spells)
@@ -134,7 +133,7 @@ digit_goes end at b held more parts digit place = (on, λ s. back (split end b m
         (join end b more (part.Int at z) later (behind is_digit more) (digit_not_white b digit) (place, front_digit b more z (behind is_digit more) digit fits (value, refl)) spells)
 
     back : Splits end b more parts → Begun (phase.Digits at false (b - 48)) held end more parts
-    back (part.Begin from name_at name, later, rest, e, (inner, is, stands, name_stands, named), spells) = absurd (let wrong = head_of is in omega (arith, wrong, digit_low b digit))
+    back (part.Begin from name_at name coordinates, later, rest, e, (inner, beyond, is, stands, name_stands, named, has), spells) = absurd (let wrong = head_of is in omega (arith, wrong, digit_low b digit))
     back (part.Int from z, later, rest, e, (stands, int), spells) =
         let same : from ≡ at = omega (arith, place, stands) in
         let front = digit_front b more z rest digit int in
@@ -150,7 +149,7 @@ quote_goes end at more parts place = (on, λ s. back (split end 34 more parts re
     on (text, rest, later, e, quoted, spells) = subst (λ (l : List Part). Spells end l (34 ∷ more)) (sym e) (rest, (place, record { inner = more; opened = refl; parts = quoted }), spells)
 
     back : Splits end 34 more parts → Begun (phase.Text at) [] end more parts
-    back (part.Begin from name_at name, later, rest, e, (inner, is, stands, name_stands, named), spells) = absurd (let wrong = head_of is in omega (arith, wrong))
+    back (part.Begin from name_at name coordinates, later, rest, e, (inner, beyond, is, stands, name_stands, named, has), spells) = absurd (let wrong = head_of is in omega (arith, wrong))
     back (part.Int from z, later, rest, e, (stands, int), spells) = absurd (omega (arith, int.some))
     back (part.Str from text, later, rest, e, (stands, string), spells) =
         let same : from ≡ at = omega (arith, place, stands) in
@@ -158,18 +157,18 @@ quote_goes end at more parts place = (on, λ s. back (split end 34 more parts re
     back (part.End from, later, rest, e, (stands, is), spells) = absurd (let wrong = head_of is in omega (arith, wrong))
 
 -- the part is given, and others follow
-abbrev pub Gives : (List Part → Type 0) → Part → List Part → Type 0
-Gives L p parts = (later : List Part) × (parts ≡ p ∷ later) × L later
+abbrev pub GivesPart : (List Part → Type 0) → Part → List Part → Type 0
+GivesPart L p parts = (later : List Part) × (parts ≡ p ∷ later) × L later
 
 -- a closing bracket
-pub close_goes : (end at : ℕ) (more : List ℕ) (parts : List Part) → at + length (41 ∷ more) ≡ end → Gives (λ later. Spells end later more) (part.End at) parts ↔ Spells end parts (41 ∷ more)
+pub close_goes : (end at : ℕ) (more : List ℕ) (parts : List Part) → at + length (41 ∷ more) ≡ end → GivesPart (λ later. Spells end later more) (part.End at) parts ↔ Spells end parts (41 ∷ more)
 close_goes end at more parts place = (on, λ s. back (split end 41 more parts refl s))
   where
-    on : Gives (λ later. Spells end later more) (part.End at) parts → Spells end parts (41 ∷ more)
+    on : GivesPart (λ later. Spells end later more) (part.End at) parts → Spells end parts (41 ∷ more)
     on (later, e, spells) = subst (λ (l : List Part). Spells end l (41 ∷ more)) (sym e) (more, (place, refl), spells)
 
-    back : Splits end 41 more parts → Gives (λ later. Spells end later more) (part.End at) parts
-    back (part.Begin from name_at name, later, rest, e, (inner, is, stands, name_stands, named), spells) = absurd (let wrong = head_of is in omega (arith, wrong))
+    back : Splits end 41 more parts → GivesPart (λ later. Spells end later more) (part.End at) parts
+    back (part.Begin from name_at name coordinates, later, rest, e, (inner, beyond, is, stands, name_stands, named, has), spells) = absurd (let wrong = head_of is in omega (arith, wrong))
     back (part.Int from z, later, rest, e, (stands, int), spells) = absurd (omega (arith, int.some))
     back (part.Str from text, later, rest, e, (stands, string), spells) = absurd (let wrong = head_of string.opened in omega (arith, wrong))
     back (part.End from, later, rest, e, (stands, is), spells) =
@@ -189,7 +188,7 @@ pub nothing_starts : (end b : ℕ) (more : List ℕ) (parts : List Part) → is_
 nothing_starts end b more parts other bracket sign quote close digit s = at_split (split end b more parts other s)
   where
     at_split : Splits end b more parts → ⊥
-    at_split (part.Begin from name_at name, later, rest, e, (inner, is, stands, name_stands, named), spells) = bracket (head_of is)
+    at_split (part.Begin from name_at name coordinates, later, rest, e, (inner, beyond, is, stands, name_stands, named, has), spells) = bracket (head_of is)
     at_split (part.Int from z, later, rest, e, (stands, int), spells) = int_starts b more z rest (unequal b 45 sign) digit int
     at_split (part.Str from text, later, rest, e, (stands, string), spells) = quote (head_of string.opened)
     at_split (part.End from, later, rest, e, (stands, is), spells) = close (head_of is)
@@ -201,8 +200,8 @@ nothing_left end b more (p ∷ parts) other none s = cc
 
 -- before the first node only white space and a bracket may stand
 pub no_first : (end b : ℕ) (more : List ℕ) (parts : List Part) → is_white b ≡ false → b ≢ 40 → IsOneNode parts → Spells end parts (b ∷ more) → ⊥
-no_first end b more [] white bracket (at, name_at, name, below, last, e) s = absurd (cc)
-no_first end b more (p ∷ parts) white bracket (at, name_at, name, below, last, e) (rest, front, later) =
-    let is : p ≡ part.Begin at name_at name = first_of e in
+no_first end b more [] white bracket (at, name_at, name, coordinates, below, last, e) s = absurd (cc)
+no_first end b more (p ∷ parts) white bracket (at, name_at, name, coordinates, below, last, e) (rest, front, later) =
+    let is : p ≡ part.Begin at name_at name coordinates = first_of e in
     let begun = subst (λ (q : Part). IsFront end (b ∷ more) q rest) is (subst (λ (l : List ℕ). IsFront end l p rest) (behind_stop is_white b more white) front) in
-    bracket (head_of begun.1)
+    bracket (head_of begun.2)

@@ -11,13 +11,13 @@ use Rattle.lido_lexer.proofs.Lists.{head_of, tail_of}
 use Rattle.lido_lexer.proofs.PartsLemmas.{escape_part, octal_part, large_no_part, quote_no_part, one_part}
 use Rattle.sum_trees.specs.Bytes.{is_white, is_digit, is_letter, is_name_byte, behind, said_after, minus}
 use Rattle.tree_reader.specs.Language.{StandsAt, Spells}
-use Rattle.tree_reader.specs.Scanning.{Begun, signed, octal_after}
+use Rattle.tree_reader.specs.Scanning.{Begun, BeginsNode, signed, octal_after}
 use Rattle.tree_reader.specs.declared.part.Part.{Part}
 use Rattle.tree_reader.specs.declared.part.Part.TheVariants as part
 use Rattle.tree_reader.specs.declared.scanner.Phase.TheVariants as phase
 use Rattle.sum_trees.proofs.Said.{said_grows}
 use Rattle.sum_trees.proofs.FrontsOfBytes.{behind_skip, behind_stop, taken_more, taken_none}
-use Rattle.tree_reader.proofs.BegunLemmas.{Gives}
+use Rattle.tree_reader.proofs.BegunLemmas.{GivesPart}
 
 -- ---- behind a bracket
 
@@ -28,14 +28,19 @@ pub opened_white : (end at b : ℕ) (held also more : List ℕ) (parts : List Pa
 opened_white end at b held also more parts white = (on, back)
   where
     on : Begun (phase.Opened at) also end more parts → Begun (phase.Opened at) held end (b ∷ more) parts
-    on (name_at, name, rest, later, e, stands, named, spells) =
+    on (name_at, name, rest, stands, named, node) =
         let moved = subst (λ (l : List ℕ). IsNamed end name_at name rest l) (sym (behind_skip is_white b more white)) (stands, named) in
-        (name_at, name, rest, later, e, moved.0, moved.1, spells)
+        (name_at, name, rest, moved.0, moved.1, node)
 
     back : Begun (phase.Opened at) held end (b ∷ more) parts → Begun (phase.Opened at) also end more parts
-    back (name_at, name, rest, later, e, stands, named, spells) =
+    back (name_at, name, rest, stands, named, node) =
         let moved = subst (λ (l : List ℕ). IsNamed end name_at name rest l) (behind_skip is_white b more white) (stands, named) in
-        (name_at, name, rest, later, e, moved.0, moved.1, spells)
+        (name_at, name, rest, moved.0, moved.1, node)
+
+-- a node with this name, and what stands behind the name
+begins_same : (at name_at : ℕ) (name : List ℕ) (end : ℕ) (text rest bytes : List ℕ) (parts : List Part) → text ≡ name → rest ≡ bytes → BeginsNode at name_at text end rest parts → BeginsNode at name_at name end bytes parts
+begins_same at name_at name end text rest bytes parts same after node =
+    subst (λ (l : List ℕ). BeginsNode at name_at l end bytes parts) same (subst (λ (l : List ℕ). BeginsNode at name_at text end l parts) after node)
 
 letter_not_white : (b : ℕ) → is_letter b ≡ true → is_white b ≡ false
 letter_not_white b test = grind (arith, nat_tests)
@@ -52,46 +57,51 @@ opened_letter end at i b held more parts letter place = (on, back)
     stop = behind_stop is_white b more (letter_not_white b letter)
 
     on : Begun (phase.Name at i) (b ∷ []) end more parts → Begun (phase.Opened at) held end (b ∷ more) parts
-    on (later, e, spells) =
+    on node =
         let named : IsName (b ∷ more) (b ∷ take_while is_name_byte more) (behind is_name_byte more) = record {
           begins = letter;
           all = sym (taken_more is_name_byte b more (letter_in_name b letter));
           after = sym (behind_skip is_name_byte b more (letter_in_name b letter));
         } in
         let moved = subst (λ (l : List ℕ). IsNamed end i (b ∷ take_while is_name_byte more) (behind is_name_byte more) l) (sym stop) (place, named) in
-        (i, b ∷ take_while is_name_byte more, behind is_name_byte more, later, e, moved.0, moved.1, spells)
+        (i, b ∷ take_while is_name_byte more, behind is_name_byte more, moved.0, moved.1, node)
 
     back : Begun (phase.Opened at) held end (b ∷ more) parts → Begun (phase.Name at i) (b ∷ []) end more parts
-    back (name_at, name, rest, later, e, stands, named, spells) =
+    back (name_at, name, rest, stands, named, node) =
         let moved = subst (λ (l : List ℕ). IsNamed end name_at name rest l) stop (stands, named) in
         let same : name_at ≡ i = omega (arith, place, moved.0) in
-        let text : name ≡ b ∷ take_while is_name_byte more = moved.1.all ∙ taken_more is_name_byte b more (letter_in_name b letter) in (
-          later,
-          e ∙ ap (λ (n : ℕ). part.Begin at n name ∷ later) same ∙ ap (λ (l : List ℕ). part.Begin at i l ∷ later) text,
-          subst (λ (l : List ℕ). Spells end later l) (moved.1.after ∙ behind_skip is_name_byte b more (letter_in_name b letter)) spells,
-        )
+        let text : name ≡ b ∷ take_while is_name_byte more = moved.1.all ∙ taken_more is_name_byte b more (letter_in_name b letter) in
+        begins_same at i (b ∷ take_while is_name_byte more) end name rest (behind is_name_byte more) parts text (moved.1.after ∙ behind_skip is_name_byte b more (letter_in_name b letter))
+        (subst (λ (n : ℕ). BeginsNode at n name end rest parts) same node)
 
 -- ---- in a name
 
 pub name_more : (end at name_at b : ℕ) (held more : List ℕ) (parts : List Part) → is_name_byte b ≡ true
     → Begun (phase.Name at name_at) (held ++ b ∷ []) end more parts ↔ Begun (phase.Name at name_at) held end (b ∷ more) parts
 name_more end at name_at b held more parts passes = (
-  λ (later, e, spells). (later, e ∙ ap (λ (l : List ℕ). part.Begin at name_at l ∷ later) (sym text), subst (λ (l : List ℕ). Spells end later l) (sym (behind_skip is_name_byte b more passes)) spells),
-  λ (later, e, spells). (later, e ∙ ap (λ (l : List ℕ). part.Begin at name_at l ∷ later) text, subst (λ (l : List ℕ). Spells end later l) (behind_skip is_name_byte b more passes) spells),
+  begins_same at name_at (held ++ take_while is_name_byte (b ∷ more)) end ((held ++ b ∷ []) ++ take_while is_name_byte more) (behind is_name_byte more) (behind is_name_byte (b ∷ more)) parts (sym text) (sym after),
+  begins_same at name_at ((held ++ b ∷ []) ++ take_while is_name_byte more) end (held ++ take_while is_name_byte (b ∷ more)) (behind is_name_byte (b ∷ more)) (behind is_name_byte more) parts text after,
 )
   where
     text : held ++ take_while is_name_byte (b ∷ more) ≡ (held ++ b ∷ []) ++ take_while is_name_byte more
     text = ap (λ (l : List ℕ). held ++ l) (taken_more is_name_byte b more passes) ∙ sym (append_assoc held (b ∷ []) (take_while is_name_byte more))
 
+    after : behind is_name_byte (b ∷ more) ≡ behind is_name_byte more
+    after = behind_skip is_name_byte b more passes
+
+-- the name is whole
 pub name_ends : (end at name_at b : ℕ) (held more : List ℕ) (parts : List Part) → is_name_byte b ≡ false
-    → Gives (λ later. Spells end later (b ∷ more)) (part.Begin at name_at held) parts ↔ Begun (phase.Name at name_at) held end (b ∷ more) parts
+    → Begun (phase.Named at name_at) held end (b ∷ more) parts ↔ Begun (phase.Name at name_at) held end (b ∷ more) parts
 name_ends end at name_at b held more parts fails = (
-  λ (later, e, spells). (later, e ∙ ap (λ (l : List ℕ). part.Begin at name_at l ∷ later) (sym text), subst (λ (l : List ℕ). Spells end later l) (sym (behind_stop is_name_byte b more fails)) spells),
-  λ (later, e, spells). (later, e ∙ ap (λ (l : List ℕ). part.Begin at name_at l ∷ later) text, subst (λ (l : List ℕ). Spells end later l) (behind_stop is_name_byte b more fails) spells),
+  begins_same at name_at (held ++ take_while is_name_byte (b ∷ more)) end held (b ∷ more) (behind is_name_byte (b ∷ more)) parts (sym text) (sym after),
+  begins_same at name_at held end (held ++ take_while is_name_byte (b ∷ more)) (behind is_name_byte (b ∷ more)) (b ∷ more) parts text after,
 )
   where
     text : held ++ take_while is_name_byte (b ∷ more) ≡ held
     text = ap (λ (l : List ℕ). held ++ l) (taken_none is_name_byte b more fails) ∙ append-nil held
+
+    after : behind is_name_byte (b ∷ more) ≡ b ∷ more
+    after = behind_stop is_name_byte b more fails
 
 -- ---- in a number
 
@@ -150,29 +160,29 @@ digits_too_many end at b value negative held more parts digit large left =
     (subst (λ (x : ℤ). FitsSigned w64 x) says fits))
 
 pub digits_end : (end at b value : ℕ) (negative : Bool) (held more : List ℕ) (parts : List Part) → is_digit b ≡ false → FitsSigned w64 (signed negative value)
-    → Gives (λ later. Spells end later (b ∷ more)) (part.Int at (signed negative value)) parts ↔ Begun (phase.Digits at negative value) held end (b ∷ more) parts
+    → GivesPart (λ later. Spells end later (b ∷ more)) (part.Int at (signed negative value)) parts ↔ Begun (phase.Digits at negative value) held end (b ∷ more) parts
 digits_end end at b value negative held more parts other fits = (on, back)
   where
     said : said_after value (take_while is_digit (b ∷ more)) ≡ value
     said = ap (λ (l : List ℕ). said_after value l) (taken_none is_digit b more other)
 
-    on : Gives (λ later. Spells end later (b ∷ more)) (part.Int at (signed negative value)) parts → Begun (phase.Digits at negative value) held end (b ∷ more) parts
+    on : GivesPart (λ later. Spells end later (b ∷ more)) (part.Int at (signed negative value)) parts → Begun (phase.Digits at negative value) held end (b ∷ more) parts
     on (later, e, spells) = (signed negative value, later, e, ap (λ (n : ℕ). signed negative n) (sym said), fits, subst (λ (l : List ℕ). Spells end later l) (sym (behind_stop is_digit b more other)) spells)
 
-    back : Begun (phase.Digits at negative value) held end (b ∷ more) parts → Gives (λ later. Spells end later (b ∷ more)) (part.Int at (signed negative value)) parts
+    back : Begun (phase.Digits at negative value) held end (b ∷ more) parts → GivesPart (λ later. Spells end later (b ∷ more)) (part.Int at (signed negative value)) parts
     back (z, later, e, says, small, spells) =
         (later, e ∙ ap (λ (x : ℤ). part.Int at x ∷ later) (says ∙ ap (λ (n : ℕ). signed negative n) said), subst (λ (l : List ℕ). Spells end later l) (behind_stop is_digit b more other) spells)
 
 -- ---- in a string
 
 pub text_ends : (end at : ℕ) (held more : List ℕ) (parts : List Part)
-    → Gives (λ later. Spells end later more) (part.Str at held) parts ↔ Begun (phase.Text at) held end (34 ∷ more) parts
+    → GivesPart (λ later. Spells end later more) (part.Str at held) parts ↔ Begun (phase.Text at) held end (34 ∷ more) parts
 text_ends end at held more parts = (on, back)
   where
-    on : Gives (λ later. Spells end later more) (part.Str at held) parts → Begun (phase.Text at) held end (34 ∷ more) parts
+    on : GivesPart (λ later. Spells end later more) (part.Str at held) parts → Begun (phase.Text at) held end (34 ∷ more) parts
     on (later, e, spells) = ([], more, later, e ∙ ap (λ (l : List ℕ). part.Str at l ∷ later) (sym (append-nil held)), refl, spells)
 
-    back : Begun (phase.Text at) held end (34 ∷ more) parts → Gives (λ later. Spells end later more) (part.Str at held) parts
+    back : Begun (phase.Text at) held end (34 ∷ more) parts → GivesPart (λ later. Spells end later more) (part.Str at held) parts
     back ([], rest, later, e, closed, spells) = (later, e ∙ ap (λ (l : List ℕ). part.Str at l ∷ later) (append-nil held), subst (λ (l : List ℕ). Spells end later l) (sym (tail_of closed)) spells)
     back (x ∷ text, rest, later, e, (inner, first, quoted), spells) = absurd (quote_no_part refl first)
 

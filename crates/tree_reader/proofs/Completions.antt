@@ -3,8 +3,9 @@ use Rattle.std.proofs.Common.{◌≡◌, ◌≢◌, ℕ, ◌+◌, ◌≤◌, inr
 use Rattle.std.specs.Prelude.{FitsSigned}
 use Rattle.std.specs.Int.{w64}
 use Rattle.lido_lexer.specs.Tokens.{escape}
-use Rattle.tree_reader.specs.Language.{none, Spells}
-use Rattle.tree_reader.specs.Scanning.{Begun, Follows, Closes, CanStand, signed}
+use Rattle.tree_reader.specs.Language.{none, IsNumber, Spells}
+use Rattle.tree_reader.specs.Scanning.{Begun, Follows, Closes, CanStand, IsNumberAfter, IsBegunNumber, signed}
+use Rattle.tree_reader.specs.declared.part.Coordinates.{Coordinates}
 use Rattle.tree_reader.specs.declared.part.Part.{Part}
 use Rattle.tree_reader.specs.declared.part.Part.TheVariants as part
 use Rattle.tree_reader.specs.declared.scanner.Phase.{Phase}
@@ -45,9 +46,9 @@ Completes p held depth i = (more : List ℕ) × (parts : List Part) × Begun p h
 gap : (held : List ℕ) (depth : Option ℕ) (i : ℕ) → Completes phase.Gap held depth i
 gap held None i = (
   40 ∷ 97 ∷ 41 ∷ [],
-  part.Begin i (i + 1) (97 ∷ []) ∷ part.End (i + 2) ∷ [],
-  (41 ∷ [], (97 ∷ 41 ∷ [], refl, refl, omega arith, record { begins = refl; all = refl; after = refl }), ([], (omega arith, refl), refl)),
-  (i, i + 1, 97 ∷ [], none, i + 2, refl),
+  part.Begin i (i + 1) (97 ∷ []) None ∷ part.End (i + 2) ∷ [],
+  (41 ∷ [], (97 ∷ 41 ∷ [], 41 ∷ [], refl, refl, omega arith, record { begins = refl; all = refl; after = refl }, refl), ([], (omega arith, refl), refl)),
+  (i, i + 1, 97 ∷ [], None, none, i + 2, refl),
 )
 gap held (Some depth) i = (closers depth, endings i depth, closers_spell depth i, closers_close depth i)
 
@@ -56,33 +57,112 @@ abbrev pub above : Option ℕ → ℕ
 above None = 0
 above (Some depth) = depth
 
-begun : (depth : Option ℕ) (at name_at : ℕ) (name : List ℕ) (parts : List Part) → depth ≢ Some 0 → Closes (suc (above depth)) parts → Follows depth (part.Begin at name_at name ∷ parts)
-begun None at name_at name parts some closes = (begin_follows None at name_at name parts some).0 closes
-begun (Some depth) at name_at name parts some closes = (begin_follows (Some depth) at name_at name parts some).0 (subst (λ (n : ℕ). Closes n parts) (let e : suc depth ≡ depth + 1 = omega arith in e) closes)
+begun : (depth : Option ℕ) (at name_at : ℕ) (name : List ℕ) (c : Option Coordinates) (parts : List Part) → depth ≢ Some 0 → Closes (suc (above depth)) parts → Follows depth (part.Begin at name_at name c ∷ parts)
+begun None at name_at name c parts some closes = (begin_follows None at name_at name c parts some).0 closes
+begun (Some depth) at name_at name c parts some closes = (begin_follows (Some depth) at name_at name c parts some).0 (subst (λ (n : ℕ). Closes n parts) (let e : suc depth ≡ depth + 1 = omega arith in e) closes)
 
 opened : (at : ℕ) (held : List ℕ) (depth : Option ℕ) (i : ℕ) → depth ≢ Some 0 → Completes (phase.Opened at) held depth i
 opened at held depth i some = (
   97 ∷ closers (suc (above depth)),
-  part.Begin at i (97 ∷ []) ∷ endings (suc i) (suc (above depth)),
+  part.Begin at i (97 ∷ []) None ∷ endings (suc i) (suc (above depth)),
   (
     i,
     97 ∷ [],
     closers (suc (above depth)),
-    endings (suc i) (suc (above depth)),
-    refl,
     refl,
     record { begins = refl; all = refl; after = refl },
-    at_end (suc i + length (closers (suc (above depth)))) (i + length (97 ∷ closers (suc (above depth)))) (endings (suc i) (suc (above depth))) (closers (suc (above depth))) (omega arith) (closers_spell (suc (above depth)) (suc i)),
+    (
+      None,
+      closers (suc (above depth)),
+      endings (suc i) (suc (above depth)),
+      refl,
+      refl,
+      at_end (suc i + length (closers (suc (above depth)))) (i + length (97 ∷ closers (suc (above depth)))) (endings (suc i) (suc (above depth))) (closers (suc (above depth))) (omega arith) (closers_spell (suc (above depth)) (suc i)),
+    ),
   ),
-  begun depth at i (97 ∷ []) (endings (suc i) (suc (above depth))) some (closers_close (suc (above depth)) (suc i)),
+  begun depth at i (97 ∷ []) None (endings (suc i) (suc (above depth))) some (closers_close (suc (above depth)) (suc i)),
 )
 
 named : (at name_at : ℕ) (held : List ℕ) (depth : Option ℕ) (i : ℕ) → depth ≢ Some 0 → Completes (phase.Name at name_at) held depth i
 named at name_at held depth i some = (
   closers (suc (above depth)),
-  part.Begin at name_at (held ++ []) ∷ endings i (suc (above depth)),
-  (endings i (suc (above depth)), refl, closers_spell (suc (above depth)) i),
-  begun depth at name_at (held ++ []) (endings i (suc (above depth))) some (closers_close (suc (above depth)) i),
+  part.Begin at name_at (held ++ []) None ∷ endings i (suc (above depth)),
+  (None, closers (suc (above depth)), endings i (suc (above depth)), refl, refl, closers_spell (suc (above depth)) i),
+  begun depth at name_at (held ++ []) None (endings i (suc (above depth))) some (closers_close (suc (above depth)) i),
+)
+
+behind_name : (at name_at : ℕ) (held : List ℕ) (depth : Option ℕ) (i : ℕ) → depth ≢ Some 0 → Completes (phase.Named at name_at) held depth i
+behind_name at name_at held depth i some = (
+  closers (suc (above depth)),
+  part.Begin at name_at held None ∷ endings i (suc (above depth)),
+  (None, closers (suc (above depth)), endings i (suc (above depth)), refl, refl, closers_spell (suc (above depth)) i),
+  begun depth at name_at held None (endings i (suc (above depth))) some (closers_close (suc (above depth)) i),
+)
+
+zero_number : (d : ℕ) → IsNumber (48 ∷ closers (suc d)) 0 (closers (suc d))
+zero_number d = record { some = omega arith; few = omega arith; value = refl; fits = omega arith; after = refl }
+
+zero_after : (d : ℕ) → IsNumberAfter 0 0 (48 ∷ closers (suc d)) 0 (closers (suc d))
+zero_after d = record { some = omega arith; few = omega arith; value_is = refl; fits = omega arith; after = refl }
+
+in_line : (at name_at count value : ℕ) (held : List ℕ) (depth : Option ℕ) (i : ℕ) → depth ≢ Some 0 → IsBegunNumber count value → Completes (phase.Line at name_at count value) held depth i
+in_line at name_at zero value held depth i some number = subst (λ (v : ℕ). Completes (phase.Line at name_at 0 v) held depth i) (sym (number.none refl)) (
+  48 ∷ 58 ∷ 48 ∷ closers (suc (above depth)),
+  part.Begin at name_at held (Some (record { line = 0; column = 0 })) ∷ endings (suc (suc (suc i))) (suc (above depth)),
+  (
+    record { line = 0; column = 0 },
+    48 ∷ closers (suc (above depth)),
+    closers (suc (above depth)),
+    endings (suc (suc (suc i))) (suc (above depth)),
+    refl,
+    record { some = omega arith; few = omega arith; value_is = refl; fits = omega arith; after = refl },
+    zero_number (above depth),
+    at_end (suc (suc (suc i)) + length (closers (suc (above depth)))) (i + length (48 ∷ 58 ∷ 48 ∷ closers (suc (above depth)))) (endings (suc (suc (suc i))) (suc (above depth))) (closers (suc (above depth))) (omega arith) (closers_spell (suc (above depth)) (suc (suc (suc i)))),
+  ),
+  begun depth at name_at held (Some (record { line = 0; column = 0 })) (endings (suc (suc (suc i))) (suc (above depth))) some (closers_close (suc (above depth)) (suc (suc (suc i)))),
+)
+in_line at name_at (suc count) value held depth i some number = (
+  58 ∷ 48 ∷ closers (suc (above depth)),
+  part.Begin at name_at held (Some (record { line = value; column = 0 })) ∷ endings (suc (suc i)) (suc (above depth)),
+  (
+    record { line = value; column = 0 },
+    48 ∷ closers (suc (above depth)),
+    closers (suc (above depth)),
+    endings (suc (suc i)) (suc (above depth)),
+    refl,
+    record { some = omega arith; few = omega (arith, number.few); value_is = refl; fits = number.fits; after = refl },
+    zero_number (above depth),
+    at_end (suc (suc i) + length (closers (suc (above depth)))) (i + length (58 ∷ 48 ∷ closers (suc (above depth)))) (endings (suc (suc i)) (suc (above depth))) (closers (suc (above depth))) (omega arith) (closers_spell (suc (above depth)) (suc (suc i))),
+  ),
+  begun depth at name_at held (Some (record { line = value; column = 0 })) (endings (suc (suc i)) (suc (above depth))) some (closers_close (suc (above depth)) (suc (suc i))),
+)
+
+in_column : (at name_at line count value : ℕ) (held : List ℕ) (depth : Option ℕ) (i : ℕ) → depth ≢ Some 0 → IsBegunNumber count value → Completes (phase.Column at name_at line count value) held depth i
+in_column at name_at line zero value held depth i some number = subst (λ (v : ℕ). Completes (phase.Column at name_at line 0 v) held depth i) (sym (number.none refl)) (
+  48 ∷ closers (suc (above depth)),
+  part.Begin at name_at held (Some (record { line = line; column = 0 })) ∷ endings (suc i) (suc (above depth)),
+  (
+    0,
+    closers (suc (above depth)),
+    endings (suc i) (suc (above depth)),
+    refl,
+    zero_after (above depth),
+    at_end (suc i + length (closers (suc (above depth)))) (i + length (48 ∷ closers (suc (above depth)))) (endings (suc i) (suc (above depth))) (closers (suc (above depth))) (omega arith) (closers_spell (suc (above depth)) (suc i)),
+  ),
+  begun depth at name_at held (Some (record { line = line; column = 0 })) (endings (suc i) (suc (above depth))) some (closers_close (suc (above depth)) (suc i)),
+)
+in_column at name_at line (suc count) value held depth i some number = (
+  closers (suc (above depth)),
+  part.Begin at name_at held (Some (record { line = line; column = value })) ∷ endings i (suc (above depth)),
+  (
+    value,
+    closers (suc (above depth)),
+    endings i (suc (above depth)),
+    refl,
+    record { some = omega arith; few = omega (arith, number.few); value_is = refl; fits = number.fits; after = refl },
+    closers_spell (suc (above depth)) i,
+  ),
+  begun depth at name_at held (Some (record { line = line; column = value })) (endings i (suc (above depth))) some (closers_close (suc (above depth)) i),
 )
 
 minus : (at : ℕ) (held : List ℕ) (d i : ℕ) → Completes (phase.Minus at) held (Some (suc d)) i
@@ -152,6 +232,9 @@ pub completed : (p : Phase) (held : List ℕ) (depth : Option ℕ) (i : ℕ) →
 completed phase.Gap held depth i stands = gap held depth i
 completed (phase.Opened at) held depth i (empty, some) = opened at held depth i some
 completed (phase.Name at name_at) held depth i some = named at name_at held depth i some
+completed (phase.Named at name_at) held depth i some = behind_name at name_at held depth i some
+completed (phase.Line at name_at count value) held depth i (some, number) = in_line at name_at count value held depth i some number
+completed (phase.Column at name_at line count value) held depth i (some, number) = in_column at name_at line count value held depth i some number
 completed (phase.Minus at) held depth i (empty, d, is) = subst (λ (x : Option ℕ). Completes (phase.Minus at) held x i) (sym is) (minus at held d i)
 completed (phase.Digits at negative value) held depth i (empty, d, is, fits) = subst (λ (x : Option ℕ). Completes (phase.Digits at negative value) held x i) (sym is) (digits at negative value held d i fits)
 completed (phase.Text at) held depth i (d, is) = subst (λ (x : Option ℕ). Completes (phase.Text at) held x i) (sym is) (text at held d i)

@@ -8,8 +8,9 @@ use Rattle.lido_base.specs.declared.value.ValueType.TheVariants as type
 use Rattle.tree_store.specs.declared.fault.TreeFault.{TreeFault}
 use Rattle.tree_store.specs.declared.fault.TreeFault.TheVariants as fault
 use Rattle.tree_store.proofs.GrowthLemmas.{length-with_item, items_of-with_item}
+use Rattle.tree_reader.specs.declared.part.Coordinates.{Coordinates}
 use Rattle.tree_reader.specs.Language.{Forest, none, node, int, string}
-use Rattle.tree_reader.specs.WrittenTrees.{Asked, count, first_of, rule_named, items, nodes, fault_among, node_fault, most_nodes, add_items, Frame, fill, resume}
+use Rattle.tree_reader.specs.WrittenTrees.{Asked, count, first_of, rule_named, items, nodes, fault_among, node_fault, most_nodes, add_items, coordinates_of, own, table_node, Frame, fill, resume}
 
 module _ {V : Type 0} where
   add_none : (t : Tree V) (p : ℕ) → add_items t p [] ≡ t
@@ -49,68 +50,95 @@ module _ {V : Type 0} where
   items_last (m ∷ t) n zero is = absurd (omega (arith, is))
   items_last (m ∷ t) n (suc p) is = items_last t n p (omega (arith, is))
 
+  same_coordinates : (t : Tree V) (p : ℕ) (x : Item V) (q : ℕ) → coordinates_of (with_item t p x) q ≡ coordinates_of t q
+  same_coordinates [] p x q = refl
+  same_coordinates (n ∷ t) zero x zero = refl
+  same_coordinates (n ∷ t) zero x (suc q) = refl
+  same_coordinates (n ∷ t) (suc p) x zero = refl
+  same_coordinates (n ∷ t) (suc p) x (suc q) = same_coordinates t p x q
+
+  coordinates_left : (t u : Tree V) (q : ℕ) → q < length t → coordinates_of (t ++ u) q ≡ coordinates_of t q
+  coordinates_left [] u q less = absurd (omega (arith, less))
+  coordinates_left (n ∷ t) u zero less = refl
+  coordinates_left (n ∷ t) u (suc q) less = coordinates_left t u q (omega (arith, less))
+
+  coordinates_last : (t : Tree V) (n : Node V) (q : ℕ) → q ≡ length t → coordinates_of (t ++ n ∷ []) q ≡ record { line = n.line; column = n.column }
+  coordinates_last [] n zero is = refl
+  coordinates_last [] n (suc q) is = absurd (omega (arith, is))
+  coordinates_last (m ∷ t) n zero is = absurd (omega (arith, is))
+  coordinates_last (m ∷ t) n (suc q) is = coordinates_last t n q (omega (arith, is))
+
   pub places_with : (t : Tree V) (p : ℕ) (x : Item V) → p < length t → places (with_item t p x) p ≡ suc (places t p)
   places_with t p x less = ap length (items_of-with_item t p x less) ∙ omega (arith, length-append (items_of t p) (x ∷ []))
 
 module _ {S : Type 0} (g : Asked S) where
-  pub length-nodes : (n p k : ℕ) (f : Forest) → length (nodes g n p k f) ≡ count f
-  length-nodes n p k none = refl
-  length-nodes n p k (node at name_at name below end after) = omega (
+  pub length-nodes : (n p k : ℕ) (above : Coordinates) (f : Forest) → length (nodes g n p k above f) ≡ count f
+  length-nodes n p k above none = refl
+  length-nodes n p k above (node at name_at name coordinates below end after) = omega (
     arith,
-    length-append (nodes g (suc n) n 0 below) (nodes g (suc (n + count below)) p (suc k) after),
-    length-nodes (suc n) n 0 below,
-    length-nodes (suc (n + count below)) p (suc k) after,
+    length-append (nodes g (suc n) n 0 (own coordinates above) below) (nodes g (suc (n + count below)) p (suc k) above after),
+    length-nodes (suc n) n 0 (own coordinates above) below,
+    length-nodes (suc (n + count below)) p (suc k) above after,
   )
-  length-nodes n p k (int at value after) = length-nodes n p (suc k) after
-  length-nodes n p k (string at text after) = length-nodes n p (suc k) after
+  length-nodes n p k above (int at value after) = length-nodes n p (suc k) above after
+  length-nodes n p k above (string at text after) = length-nodes n p (suc k) above after
 
   pub fill_none : (t : Tree Plain) (p : ℕ) → fill g t p none ≡ t
   fill_none t p = append-nil (add_items t p []) ∙ add_none t p
 
   pub fill_leaf : (t : Tree Plain) (p : ℕ) (v : Plain) (after : Forest) → p < length t
-      → add_items t p (Leaf v ∷ items g (length t) after) ++ nodes g (length t) p (suc (places t p)) after ≡ fill g (with_item t p (Leaf v)) p after
+      → add_items t p (Leaf v ∷ items g (length t) after) ++ nodes g (length t) p (suc (places t p)) (coordinates_of t p) after ≡ fill g (with_item t p (Leaf v)) p after
   fill_leaf t p v after less =
-      ap (λ (l : Tree Plain). l ++ nodes g (length t) p (suc (places t p)) after) (sym (add_after t p (Leaf v) (items g (length t) after)))
-      ∙ ap (λ (n : ℕ). add_items (with_item t p (Leaf v)) p (items g n after) ++ nodes g n p (suc (places t p)) after) (sym (length-with_item t p (Leaf v)))
-      ∙ ap (λ (k : ℕ). add_items (with_item t p (Leaf v)) p (items g (length (with_item t p (Leaf v))) after) ++ nodes g (length (with_item t p (Leaf v))) p k after) (sym (places_with t p (Leaf v) less))
+      ap (λ (l : Tree Plain). l ++ nodes g (length t) p (suc (places t p)) (coordinates_of t p) after) (sym (add_after t p (Leaf v) (items g (length t) after)))
+      ∙ ap (λ (n : ℕ). add_items (with_item t p (Leaf v)) p (items g n after) ++ nodes g n p (suc (places t p)) (coordinates_of t p) after) (sym (length-with_item t p (Leaf v)))
+      ∙ ap (λ (k : ℕ). add_items (with_item t p (Leaf v)) p (items g (length (with_item t p (Leaf v))) after) ++ nodes g (length (with_item t p (Leaf v))) p k (coordinates_of t p) after) (sym (places_with t p (Leaf v) less))
+      ∙ ap (λ (c : Coordinates). add_items (with_item t p (Leaf v)) p (items g (length (with_item t p (Leaf v))) after) ++ nodes g (length (with_item t p (Leaf v))) p (places (with_item t p (Leaf v)) p) c after) (sym (same_coordinates t p (Leaf v) p))
 
-  abbrev pub added : Tree Plain → ℕ → ℕ → Node Plain
-  added t p rule = record { rule = rule; parent = Some p; place = places t p + 1; items = [] }
+  abbrev pub added : Tree Plain → ℕ → ℕ → Coordinates → Node Plain
+  added t p rule c = record { rule = rule; parent = Some p; place = places t p + 1; line = c.line; column = c.column; items = [] }
 
-  length-grown : (t : Tree Plain) (rule p : ℕ) → length (with_node t rule (Some p)) ≡ suc (length t)
-  length-grown t rule p = omega (arith, length-append (with_item t p (Child (length t))) (added t p rule ∷ []), length-with_item t p (Child (length t)))
+  -- the tree with such a node
+  abbrev pub grown : Tree Plain → ℕ → ℕ → Coordinates → Tree Plain
+  grown t rule p c = with_node t rule (Some p) c.line c.column
+
+  length-grown : (t : Tree Plain) (rule p : ℕ) (c : Coordinates) → length (grown t rule p c) ≡ suc (length t)
+  length-grown t rule p c = omega (arith, length-append (with_item t p (Child (length t))) (added t p rule c ∷ []), length-with_item t p (Child (length t)))
 
   -- the node is there, with its children
-  fill_below : (t : Tree Plain) (rule p : ℕ) (below : Forest) → fill g (with_node t rule (Some p)) (length t) below
-      ≡ (with_item t p (Child (length t)) ++ record (added t p rule) { items = items g (suc (length t)) below } ∷ []) ++ nodes g (suc (length t)) (length t) 0 below
-  fill_below t rule p below =
-      ap (λ (n : ℕ). add_items (with_node t rule (Some p)) (length t) (items g n below) ++ nodes g n (length t) (places (with_node t rule (Some p)) (length t)) below) (length-grown t rule p)
-      ∙ ap (λ (k : ℕ). add_items (with_node t rule (Some p)) (length t) (items g (suc (length t)) below) ++ nodes g (suc (length t)) (length t) k below)
-      (ap length (items_last (with_item t p (Child (length t))) (added t p rule) (length t) (sym (length-with_item t p (Child (length t))))))
-      ∙ ap (λ (l : Tree Plain). l ++ nodes g (suc (length t)) (length t) 0 below)
-      (add_last (with_item t p (Child (length t))) (added t p rule) (length t) (items g (suc (length t)) below) (sym (length-with_item t p (Child (length t)))))
+  fill_below : (t : Tree Plain) (rule p : ℕ) (c : Coordinates) (below : Forest) → fill g (grown t rule p c) (length t) below
+      ≡ (with_item t p (Child (length t)) ++ record (added t p rule c) { items = items g (suc (length t)) below } ∷ []) ++ nodes g (suc (length t)) (length t) 0 c below
+  fill_below t rule p c below =
+      ap (λ (n : ℕ). add_items (grown t rule p c) (length t) (items g n below) ++ nodes g n (length t) (places (grown t rule p c) (length t)) (coordinates_of (grown t rule p c) (length t)) below) (length-grown t rule p c)
+      ∙ ap (λ (k : ℕ). add_items (grown t rule p c) (length t) (items g (suc (length t)) below) ++ nodes g (suc (length t)) (length t) k (coordinates_of (grown t rule p c) (length t)) below)
+      (ap length (items_last (with_item t p (Child (length t))) (added t p rule c) (length t) (sym (length-with_item t p (Child (length t))))))
+      ∙ ap (λ (d : Coordinates). add_items (grown t rule p c) (length t) (items g (suc (length t)) below) ++ nodes g (suc (length t)) (length t) 0 d below)
+      (coordinates_last (with_item t p (Child (length t))) (added t p rule c) (length t) (sym (length-with_item t p (Child (length t)))))
+      ∙ ap (λ (l : Tree Plain). l ++ nodes g (suc (length t)) (length t) 0 c below)
+      (add_last (with_item t p (Child (length t))) (added t p rule c) (length t) (items g (suc (length t)) below) (sym (length-with_item t p (Child (length t)))))
 
   -- what the table is when the node, what is below it, and the siblings behind it are there
-  pub fill_after : (t : Tree Plain) (rule p : ℕ) (below after : Forest) → p < length t
-      → fill g (fill g (with_node t rule (Some p)) (length t) below) p after
+  pub fill_after : (t : Tree Plain) (rule p : ℕ) (c : Coordinates) (below after : Forest) → p < length t
+      → fill g (fill g (grown t rule p c) (length t) below) p after
       ≡ add_items t p (Child (length t) ∷ items g (suc (length t + count below)) after)
-      ++ (record (added t p rule) { items = items g (suc (length t)) below } ∷ (nodes g (suc (length t)) (length t) 0 below ++ nodes g (suc (length t + count below)) p (suc (places t p)) after))
-  fill_after t rule p below after less =
+      ++ (record (added t p rule c) { items = items g (suc (length t)) below } ∷ (nodes g (suc (length t)) (length t) 0 c below ++ nodes g (suc (length t + count below)) p (suc (places t p)) (coordinates_of t p) after))
+  fill_after t rule p c below after less =
       let n = length t in
       let x : Item Plain = Child (length t) in
-      let node' : Node Plain = record (added t p rule) { items = items g (suc n) below } in
-      let low : Tree Plain = nodes g (suc n) n 0 below in
+      let node' : Node Plain = record (added t p rule c) { items = items g (suc n) below } in
+      let low : Tree Plain = nodes g (suc n) n 0 c below in
       let base : Tree Plain = with_item t p x in
       let u : Tree Plain = (base ++ node' ∷ []) ++ low in
       let inside : p < length base = omega (arith, length-with_item t p x, less) in
       let inside' : p < length (base ++ node' ∷ []) = omega (arith, inside, length-append base (node' ∷ [])) in
-      let size : length u ≡ suc (n + count below) = omega (arith, length-append (base ++ node' ∷ []) low, length-append base (node' ∷ []), length-with_item t p x, length-nodes (suc n) n 0 below) in
+      let size : length u ≡ suc (n + count below) = omega (arith, length-append (base ++ node' ∷ []) low, length-append base (node' ∷ []), length-with_item t p x, length-nodes (suc n) n 0 c below) in
       let many : places u p ≡ suc (places t p) = ap length (items_left (base ++ node' ∷ []) low p inside') ∙ ap length (items_left base (node' ∷ []) p inside) ∙ places_with t p x less in
+      let stands : coordinates_of u p ≡ coordinates_of t p = coordinates_left (base ++ node' ∷ []) low p inside' ∙ coordinates_left base (node' ∷ []) p inside ∙ same_coordinates t p x p in
       let m = suc (n + count below) in
-      let last : Tree Plain = nodes g m p (suc (places t p)) after in
-      ap (λ (v : Tree Plain). fill g v p after) (fill_below t rule p below)
-      ∙ ap (λ (k : ℕ). add_items u p (items g k after) ++ nodes g k p (places u p) after) size
-      ∙ ap (λ (k : ℕ). add_items u p (items g m after) ++ nodes g m p k after) many
+      let last : Tree Plain = nodes g m p (suc (places t p)) (coordinates_of t p) after in
+      ap (λ (v : Tree Plain). fill g v p after) (fill_below t rule p c below)
+      ∙ ap (λ (k : ℕ). add_items u p (items g k after) ++ nodes g k p (places u p) (coordinates_of u p) after) size
+      ∙ ap (λ (k : ℕ). add_items u p (items g m after) ++ nodes g m p k (coordinates_of u p) after) many
+      ∙ ap (λ (d : Coordinates). add_items u p (items g m after) ++ nodes g m p (suc (places t p)) d after) stands
       ∙ ap (λ (v : Tree Plain). v ++ last)
       (add_left (base ++ node' ∷ []) low p (items g m after) inside' ∙ ap (λ (v : Tree Plain). v ++ low) (add_left base (node' ∷ []) p (items g m after) inside ∙ ap (λ (v : Tree Plain). v ++ node' ∷ []) (add_after t p x (items g m after))))
       ∙ append_assoc (add_items t p (x ∷ items g m after) ++ node' ∷ []) low last
@@ -119,15 +147,16 @@ module _ {S : Type 0} (g : Asked S) where
   named_rule : (name : List ℕ) (x : S) → g.named name ≡ Some x → rule_named g name ≡ g.rule x
   named_rule name x is = ap (λ (o : Option S). elim o as (λ _. ℕ) [ None ↦ 0 | Some y ↦ g.rule y ]) is
 
-  fill_node : (t : Tree Plain) (p at name_at : ℕ) (name : List ℕ) (below : Forest) (end : ℕ) (after : Forest) (x : S) → p < length t → g.named name ≡ Some x
-      → fill g t p (node at name_at name below end after) ≡ fill g (fill g (with_node t (g.rule x) (Some p)) (length t) below) p after
-  fill_node t p at name_at name below end after x less is =
+  fill_node : (t : Tree Plain) (p at name_at : ℕ) (name : List ℕ) (coordinates : Option Coordinates) (below : Forest) (end : ℕ) (after : Forest) (x : S) → p < length t → g.named name ≡ Some x
+      → fill g t p (node at name_at name coordinates below end after) ≡ fill g (fill g (grown t (g.rule x) p (own coordinates (coordinates_of t p))) (length t) below) p after
+  fill_node t p at name_at name coordinates below end after x less is =
       let n = length t in
-      let rest : Tree Plain = nodes g (suc n) n 0 below ++ nodes g (suc (n + count below)) p (suc (places t p)) after in
+      let c : Coordinates = own coordinates (coordinates_of t p) in
+      let rest : Tree Plain = nodes g (suc n) n 0 c below ++ nodes g (suc (n + count below)) p (suc (places t p)) (coordinates_of t p) after in
       let front : Tree Plain = add_items t p (Child n ∷ items g (suc (n + count below)) after) in
-      ap (λ (r : ℕ). front ++ (record { rule = r; parent = Some p; place = suc (places t p); items = items g (suc n) below } ∷ rest)) (named_rule name x is)
-      ∙ ap (λ (k : ℕ). front ++ (record { rule = g.rule x; parent = Some p; place = k; items = items g (suc n) below } ∷ rest)) (sym (add-one (places t p)))
-      ∙ sym (fill_after t (g.rule x) p below after less)
+      ap (λ (r : ℕ). front ++ (table_node r (Some p) (suc (places t p)) c (items g (suc n) below) ∷ rest)) (named_rule name x is)
+      ∙ ap (λ (k : ℕ). front ++ (table_node (g.rule x) (Some p) k c (items g (suc n) below) ∷ rest)) (sym (add-one (places t p)))
+      ∙ sym (fill_after t (g.rule x) p c below after less)
 
   -- ---- one part more
 
@@ -214,39 +243,40 @@ module _ {S : Type 0} (g : Asked S) where
       by_takes true false is = refl
       by_takes false b is = absurd (cc)
 
-  pub resume_no_node : (p : ℕ) (x : S) (at name_at : ℕ) (name : List ℕ) (below : Forest) (end : ℕ) (after : Forest) (close : ℕ) (fs : List (Frame S)) (t : Tree Plain) (e : TreeFault)
+  pub resume_no_node : (p : ℕ) (x : S) (at name_at : ℕ) (name : List ℕ) (coordinates : Option Coordinates) (below : Forest) (end : ℕ) (after : Forest) (close : ℕ) (fs : List (Frame S)) (t : Tree Plain) (e : TreeFault)
       → node_fault g x (places t p) (length t) at name_at name ≡ Some e
-      → resume g (record { at = p; shape = x; rest = node at name_at name below end after; close = close } ∷ fs) t ≡ Err e
-  resume_no_node p x at name_at name below end after close fs t e is =
-      ap (λ (o : Option TreeFault). go_on o (resume g fs (fill g t p (node at name_at name below end after))))
+      → resume g (record { at = p; shape = x; rest = node at name_at name coordinates below end after; close = close } ∷ fs) t ≡ Err e
+  resume_no_node p x at name_at name coordinates below end after close fs t e is =
+      ap (λ (o : Option TreeFault). go_on o (resume g fs (fill g t p (node at name_at name coordinates below end after))))
       (stops x (places t p) (length t) at name_at e (λ y. first_of (fault_among g y 0 (suc (length t)) below end) (fault_among g x (suc (places t p)) (suc (length t + count below)) after close)) (g.named name) is)
 
-  pub resume_node : (p : ℕ) (x : S) (at name_at : ℕ) (name : List ℕ) (below : Forest) (end : ℕ) (after : Forest) (close : ℕ) (fs : List (Frame S)) (t : Tree Plain) (y : S) → p < length t
+  pub resume_node : (p : ℕ) (x : S) (at name_at : ℕ) (name : List ℕ) (coordinates : Option Coordinates) (below : Forest) (end : ℕ) (after : Forest) (close : ℕ) (fs : List (Frame S)) (t : Tree Plain) (y : S) → p < length t
       → g.named name ≡ Some y → node_fault g x (places t p) (length t) at name_at name ≡ None
-      → resume g (record { at = p; shape = x; rest = node at name_at name below end after; close = close } ∷ fs) t
-      ≡ resume g (record { at = length t; shape = y; rest = below; close = end } ∷ record { at = p; shape = x; rest = after; close = close } ∷ fs) (with_node t (g.rule y) (Some p))
-  resume_node p x at name_at name below end after close fs t y less is free =
+      → resume g (record { at = p; shape = x; rest = node at name_at name coordinates below end after; close = close } ∷ fs) t
+      ≡ resume g (record { at = length t; shape = y; rest = below; close = end } ∷ record { at = p; shape = x; rest = after; close = close } ∷ fs) (grown t (g.rule y) p (own coordinates (coordinates_of t p)))
+  resume_node p x at name_at name coordinates below end after close fs t y less is free =
       let n = length t in
-      let t' : Tree Plain = with_node t (g.rule y) (Some p) in
+      let c : Coordinates = own coordinates (coordinates_of t p) in
+      let t' : Tree Plain = grown t (g.rule y) p c in
       let u : Tree Plain = fill g t' n below in
       let low : Option TreeFault = fault_among g y 0 (suc n) below end in
       let later : Option TreeFault = fault_among g x (suc (places t p)) (suc (n + count below)) after close in
       let end_of : Result (Tree Plain) TreeFault = resume g fs (fill g u p after) in
       let item : Item Plain = Child n in
       let base : Tree Plain = with_item t p item in
-      let node' : Node Plain = record (added t p (g.rule y)) { items = items g (suc n) below } in
-      let deep : Tree Plain = nodes g (suc n) n 0 below in
-      let whole = fill_below t (g.rule y) p below in
+      let node' : Node Plain = record (added t p (g.rule y) c) { items = items g (suc n) below } in
+      let deep : Tree Plain = nodes g (suc n) n 0 c below in
+      let whole = fill_below t (g.rule y) p c below in
       let inside : p < length base = omega (arith, length-with_item t p item, less) in
       let inside' : p < length (base ++ node' ∷ []) = omega (arith, inside, length-append base (node' ∷ [])) in
-      let size : length u ≡ suc (n + count below) = ap length whole ∙ omega (arith, length-append (base ++ node' ∷ []) deep, length-append base (node' ∷ []), length-with_item t p item, length-nodes (suc n) n 0 below) in
+      let size : length u ≡ suc (n + count below) = ap length whole ∙ omega (arith, length-append (base ++ node' ∷ []) deep, length-append base (node' ∷ []), length-with_item t p item, length-nodes (suc n) n 0 c below) in
       let many' : places u p ≡ suc (places t p) = ap (λ (v : Tree Plain). places v p) whole ∙ ap length (items_left (base ++ node' ∷ []) deep p inside') ∙ ap length (items_left base (node' ∷ []) p inside) ∙ places_with t p item less in
-      ap (λ (o : Option TreeFault). go_on o (resume g fs (fill g t p (node at name_at name below end after))))
+      ap (λ (o : Option TreeFault). go_on o (resume g fs (fill g t p (node at name_at name coordinates below end after))))
       (goes x (places t p) n at name_at y (λ z. first_of (fault_among g z 0 (suc n) below end) later) (g.named name) is free)
-      ∙ ap (λ (v : Tree Plain). go_on (first_of low later) (resume g fs v)) (fill_node t p at name_at name below end after y less is)
+      ∙ ap (λ (v : Tree Plain). go_on (first_of low later) (resume g fs v)) (fill_node t p at name_at name coordinates below end after y less is)
       ∙ go_first low later end_of
       ∙ ap (λ (k : ℕ). go_on low (go_on (fault_among g x k (suc (n + count below)) after close) end_of)) (sym many')
       ∙ ap (λ (m : ℕ). go_on low (go_on (fault_among g x (places u p) m after close) end_of)) (sym size)
       ∙ ap (λ (k : ℕ). go_on (fault_among g y k (suc n) below end) (go_on (fault_among g x (places u p) (length u) after close) end_of))
-      (sym (ap length (items_last base (added t p (g.rule y)) n (sym (length-with_item t p item)))))
-      ∙ ap (λ (m : ℕ). go_on (fault_among g y (places t' n) m below end) (go_on (fault_among g x (places u p) (length u) after close) end_of)) (sym (length-grown t (g.rule y) p))
+      (sym (ap length (items_last base (added t p (g.rule y) c) n (sym (length-with_item t p item)))))
+      ∙ ap (λ (m : ℕ). go_on (fault_among g y (places t' n) m below end) (go_on (fault_among g x (places u p) (length u) after close) end_of)) (sym (length-grown t (g.rule y) p c))

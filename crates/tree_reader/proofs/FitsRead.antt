@@ -27,8 +27,9 @@ use Rattle.flat_grammar.specs.WellFormed.{IsWellFormed, IsListShape, is_same_sym
 use Rattle.flat_grammar.specs.Fitting.{IsFitting, IsItem, IsTerminal, HasSymbol}
 use Rattle.flat_grammar.specs.Fitting.{node as node_item, int as int_item, string as string_item}
 use Rattle.flat_grammar.proofs.Lists.{contains-nil, contains-cons}
+use Rattle.tree_reader.specs.declared.part.Coordinates.{Coordinates}
 use Rattle.tree_reader.specs.Language.{Forest, none, node, int, string}
-use Rattle.tree_reader.specs.WrittenTrees.{Asked, count, first_of, unless_fault, rule_named, items, nodes, fault_among, meaning, most_nodes}
+use Rattle.tree_reader.specs.WrittenTrees.{Asked, count, first_of, unless_fault, rule_named, items, nodes, fault_among, meaning, most_nodes, coordinates_of, no_coordinates, own, table_node}
 use Rattle.tree_reader.specs.WrittenAs.{HasName, AreWritten, IsWrittenAs}
 use Rattle.tree_reader.specs.Asking.{asked, is_same_type, shape_at, no_shape, may_be, first_from, left_of, type_of, has_name}
 use Rattle.tree_reader.proofs.Slots.{IsSlot, AreFrom, contains_at}
@@ -208,12 +209,8 @@ rule_of [] n r e = absurd (none-some _ e)
 rule_of (m ∷ t) zero r e = omega arith
 rule_of (m ∷ t) (suc n) r e = omega (arith, rule_of t n r e)
 
-node_is : (x y : Node Plain) → x.rule ≡ y.rule → x.parent ≡ y.parent → x.place ≡ y.place → x.items ≡ y.items → x ≡ y
-node_is x y rule parent place its =
-    ap (λ (r : ℕ). record { rule = r; parent = x.parent; place = x.place; items = x.items }) rule
-    ∙ ap (λ (o : Option ℕ). record { rule = y.rule; parent = o; place = x.place; items = x.items }) parent
-    ∙ ap (λ (k : ℕ). record { rule = y.rule; parent = y.parent; place = k; items = x.items }) place
-    ∙ ap (λ (l : List (Item Plain)). record { rule = y.rule; parent = y.parent; place = y.place; items = l }) its
+node_is : (x y : Node Plain) → x.rule ≡ y.rule → x.parent ≡ y.parent → x.place ≡ y.place → x.line ≡ y.line → x.column ≡ y.column → x.items ≡ y.items → x ≡ y
+node_is x y rule parent place line column its = λ i. record { rule = rule i; parent = parent i; place = place i; line = line i; column = column i; items = its i }
 
 module _ (symbols : List FlatSymbol) (rules : List FlatRule) (shapes : List Shape) (root : SymId) (texts : List (List ℕ)) (formed : IsWellFormed symbols rules shapes root)
     (apart : IsDistinctTexts texts) (t : Tree Plain) (fits : IsFitting symbols rules shapes root t) where
@@ -221,7 +218,7 @@ module _ (symbols : List FlatSymbol) (rules : List FlatRule) (shapes : List Shap
   g = asked symbols rules shapes root texts
 
   abbrev IsIt : SymId → Item Plain → Type 0
-  IsIt = IsItem symbols rules shapes root t
+  IsIt = IsItem symbols rules t
 
   abbrev AreChildren : ℕ → ℕ → List (Item Plain) → Type 0
   AreChildren x k its = AreFrom IsIt (shape_at shapes x).list (shape_at shapes x).right k its
@@ -264,30 +261,30 @@ module _ (symbols : List FlatSymbol) (rules : List FlatRule) (shapes : List Shap
       by true is = subst (λ (b : Bool). AreFrom IsIt b (shape_at shapes x).right 0 (items_of t n)) (sym is) (fits.lists n (shape_at shapes x) (contains_at shapes x no_shape inside_shapes, rule) is)
       by false is = subst (λ (b : Bool). AreFrom IsIt b (shape_at shapes x).right 0 (items_of t n)) (sym is) (fits.plain n (shape_at shapes x) (contains_at shapes x no_shape inside_shapes, rule) is)
 
-  left_known : (n x : ℕ) (s : SymId) → rule_at t n ≡ Some (shape_at shapes x).rule.0 → HasSymbol symbols rules shapes root t n s → left_of symbols rules shapes root (shape_at shapes x) ≡ Some s
+  left_known : (n x : ℕ) (s : SymId) → rule_at t n ≡ Some (shape_at shapes x).rule.0 → HasSymbol rules t n s → left_of symbols rules shapes root (shape_at shapes x) ≡ Some s
   left_known n x s rule (r, (i, at, there_rule), left) =
       let same_rule : (shape_at shapes x).rule.0 ≡ i = held (sym rule ∙ at) in
       ap (λ (k : ℕ). option_map (λ (q : FlatRule). q.left) (slice_get rules k)) same_rule
       ∙ ap (λ (o : Option FlatRule). option_map (λ (q : FlatRule). q.left) o) there_rule
       ∙ ap (λ (q : SymId). Some q) left
 
-  node_taken : (x k n y : ℕ) (s : SymId) → rule_at t n ≡ Some (shape_at shapes y).rule.0 → IsSlot (shape_at shapes x).list (shape_at shapes x).right k s → HasSymbol symbols rules shapes root t n s
+  node_taken : (x k n y : ℕ) (s : SymId) → rule_at t n ≡ Some (shape_at shapes y).rule.0 → IsSlot (shape_at shapes x).list (shape_at shapes x).right k s → HasSymbol rules t n s
       → g.takes x k y ≡ true
   node_taken x k n y s rule slot has =
       ap (λ (o : Option SymId). elim o as (λ _. Bool) [ None ↦ false | Some q ↦ may_be (shape_at shapes x) k q ]) (left_known n y s rule has)
       ∙ slot_test (shape_at shapes x).list (shape_at shapes x).right k s slot
 
   -- a list has no terminals
-  no_terminal : (x : ℕ) (s : SymId) (ty : ValueType) → x < length shapes → (shape_at shapes x).list ≡ true → Contains (shape_at shapes x).right s → IsTerminal symbols rules shapes root t s ty → ⊥
+  no_terminal : (x : ℕ) (s : SymId) (ty : ValueType) → x < length shapes → (shape_at shapes x).list ≡ true → Contains (shape_at shapes x).right s → IsTerminal symbols s ty → ⊥
   no_terminal x s ty inside_shapes list (k, less, at) (symbol, symbol_at, typed) =
-      let is_list : IsListShape symbols rules (shape_at shapes x) (cell_of symbols rules (shape_at shapes x)) = formed.each_list x no_shape inside_shapes (sym (sym list)) in
-      let element : IsTrue (is_nonterminal symbols s && not (is_same_symbol s (cell_of symbols rules (shape_at shapes x))))
-      = subst (λ (q : SymId). IsTrue (is_nonterminal symbols q && not (is_same_symbol q (cell_of symbols rules (shape_at shapes x))))) at (is_list.elements k s less) in
+      let is_list : IsListShape symbols rules (shape_at shapes x) (cell_of rules (shape_at shapes x)) = formed.each_list x no_shape inside_shapes (sym (sym list)) in
+      let element : IsTrue (is_nonterminal symbols s && not (is_same_symbol s (cell_of rules (shape_at shapes x))))
+      = subst (λ (q : SymId). IsTrue (is_nonterminal symbols q && not (is_same_symbol q (cell_of rules (shape_at shapes x))))) at (is_list.elements k s less) in
       let nonterminal : IsTrue (is_nonterminal_symbol (Some symbol)) = subst (λ (o : Option FlatSymbol). IsTrue (is_nonterminal_symbol o)) symbol_at (both _ _ element).0 in
       let none_typed : IsTrue (not (is_some (Some ty))) = subst (λ (o : Option ValueType). IsTrue (not (is_some o))) typed nonterminal in
       absurd (true≢false (sym none_typed))
 
-  value_taken : (x k : ℕ) (s : SymId) (ty : ValueType) → x < length shapes → IsSlot (shape_at shapes x).list (shape_at shapes x).right k s → IsTerminal symbols rules shapes root t s ty → g.takes_value x k ty ≡ true
+  value_taken : (x k : ℕ) (s : SymId) (ty : ValueType) → x < length shapes → IsSlot (shape_at shapes x).list (shape_at shapes x).right k s → IsTerminal symbols s ty → g.takes_value x k ty ≡ true
   value_taken x k s ty inside_shapes slot (symbol, symbol_at, typed) = by (shape_at shapes x).list refl slot
     where
       by : (b : Bool) → (shape_at shapes x).list ≡ b → IsSlot b (shape_at shapes x).right k s → g.takes_value x k ty ≡ true
@@ -299,98 +296,102 @@ module _ (symbols : List FlatSymbol) (rules : List FlatRule) (shapes : List Shap
           ∙ ap (λ (o : Option ValueType). elim o as (λ _. Bool) [ None ↦ false | Some other ↦ is_same_type ty other ]) typed
           ∙ type_test ty
 
-  int_typed : (s : SymId) (z : ℤ) → IsIt s (Leaf (Int z)) → IsTerminal symbols rules shapes root t s type.Int
+  int_typed : (s : SymId) (z : ℤ) → IsIt s (Leaf (Int z)) → IsTerminal symbols s type.Int
   int_typed s z (int_item terminal low high) = terminal
 
-  text_typed : (s : SymId) (text : List ℕ) → IsIt s (Leaf (Str text)) → IsTerminal symbols rules shapes root t s type.Str
+  text_typed : (s : SymId) (text : List ℕ) → IsIt s (Leaf (Str text)) → IsTerminal symbols s type.Str
   text_typed s text (string_item terminal) = terminal
 
-  symbol_known : (s : SymId) (n : ℕ) → IsIt s (Child n) → HasSymbol symbols rules shapes root t n s
+  symbol_known : (s : SymId) (n : ℕ) → IsIt s (Child n) → HasSymbol rules t n s
   symbol_known s n (node_item has) = has
 
-  free : (f : Forest) (x k n close : ℕ) (its : List (Item Plain)) → x < length shapes → AreChildren x k its → AreWritten rules texts t n f its → n + count f ≤ most_nodes → fault_among g x k n f close ≡ None
-  free none x k n close its inside_shapes are is few =
+  free : (f : Forest) (x k n close : ℕ) (above : Coordinates) (its : List (Item Plain)) → x < length shapes → AreChildren x k its → AreWritten rules texts t n above f its → n + count f ≤ most_nodes → fault_among g x k n f close ≡ None
+  free none x k n close above its inside_shapes are is few =
       ap (λ (b : Bool). if b then None else Some (fault.WrongChild close)) (enough IsIt (shape_at shapes x).list (shape_at shapes x).right k (subst (λ (l : List (Item Plain)). AreChildren x k l) is are))
-  free (int at z after) x k n close its inside_shapes are (more, is, later) few =
+  free (int at z after) x k n close above its inside_shapes are (more, is, later) few =
       let first = first_child IsIt (shape_at shapes x).list (shape_at shapes x).right k (Leaf (Int z)) more (subst (λ (l : List (Item Plain)). AreChildren x k l) is are) in
       ap (λ (b : Bool). if b then fault_among g x (suc k) n after close else Some (fault.WrongChild at)) (value_taken x k first.symbol type.Int inside_shapes first.slot (int_typed first.symbol z first.is))
-      ∙ free after x (suc k) n close more inside_shapes first.rest later few
-  free (string at text after) x k n close its inside_shapes are (more, is, later) few =
+      ∙ free after x (suc k) n close above more inside_shapes first.rest later few
+  free (string at text after) x k n close above its inside_shapes are (more, is, later) few =
       let first = first_child IsIt (shape_at shapes x).list (shape_at shapes x).right k (Leaf (Str text)) more (subst (λ (l : List (Item Plain)). AreChildren x k l) is are) in
       ap (λ (b : Bool). if b then fault_among g x (suc k) n after close else Some (fault.WrongChild at)) (value_taken x k first.symbol type.Str inside_shapes first.slot (text_typed first.symbol text first.is))
-      ∙ free after x (suc k) n close more inside_shapes first.rest later few
-  free (node at name_at name below end after) x k n close its inside_shapes are (more, is, has, low, later) few =
+      ∙ free after x (suc k) n close above more inside_shapes first.rest later few
+  free (node at name_at name coordinates below end after) x k n close above its inside_shapes are (more, is, has, stands, low, later) few =
       let first = first_child IsIt (shape_at shapes x).list (shape_at shapes x).right k (Child n) more (subst (λ (l : List (Item Plain)). AreChildren x k l) is are) in
       let y = is_named n name has in
       node_none (g.named name) (g.takes x k) (nat_le most_nodes n) (λ z. fault_among g z 0 (suc n) below end) (fault_among g x (suc k) (suc (n + count below)) after close)
       (fault.UnknownRule name_at) (fault.TooMany many.Nodes) (fault.WrongChild at) y.shape y.named
       (node_taken x k n y.shape first.symbol y.rule first.slot (symbol_known first.symbol n first.is))
       (high_test most_nodes n (omega (arith, few)))
-      (free below y.shape 0 (suc n) end (items_of t n) y.there (children_of n y.shape y.there y.rule) low (omega (arith, few)))
-      (free after x (suc k) (suc (n + count below)) close more inside_shapes first.rest later (omega (arith, few)))
+      (free below y.shape 0 (suc n) end (own coordinates above) (items_of t n) y.there (children_of n y.shape y.there y.rule) low (omega (arith, few)))
+      (free after x (suc k) (suc (n + count below)) close above more inside_shapes first.rest later (omega (arith, few)))
 
   -- ---- the table is the tree
 
-  items_are : (f : Forest) (n : ℕ) (its : List (Item Plain)) → AreWritten rules texts t n f its → its ≡ items g n f
-  items_are none n its is = is
-  items_are (int at z after) n its (more, is, later) = is ∙ ap (λ (l : List (Item Plain)). Leaf (Int z) ∷ l) (items_are after n more later)
-  items_are (string at text after) n its (more, is, later) = is ∙ ap (λ (l : List (Item Plain)). Leaf (Str text) ∷ l) (items_are after n more later)
-  items_are (node at name_at name below end after) n its (more, is, has, low, later) = is ∙ ap (λ (l : List (Item Plain)). Child n ∷ l) (items_are after (suc (n + count below)) more later)
+  items_are : (f : Forest) (n : ℕ) (above : Coordinates) (its : List (Item Plain)) → AreWritten rules texts t n above f its → its ≡ items g n f
+  items_are none n above its is = is
+  items_are (int at z after) n above its (more, is, later) = is ∙ ap (λ (l : List (Item Plain)). Leaf (Int z) ∷ l) (items_are after n above more later)
+  items_are (string at text after) n above its (more, is, later) = is ∙ ap (λ (l : List (Item Plain)). Leaf (Str text) ∷ l) (items_are after n above more later)
+  items_are (node at name_at name coordinates below end after) n above its (more, is, has, stands, low, later) = is ∙ ap (λ (l : List (Item Plain)). Child n ∷ l) (items_are after (suc (n + count below)) above more later)
 
   parent_is : (p k n : ℕ) → slice_get (items_of t p) k ≡ Some (Child n) → parent_of t n ≡ Some p
   parent_is p k n at =
       let test : IsTrue (contains n (children t p)) = test-contains n (children t p) (Contains-child (items_of t p) k n at) in
       is_just-some p (parent_of t n) (both (nat_lt n (length t)) (is_just p (parent_of t n)) (subst IsTrue (fits.tree.items_agree p n) test)).1
 
-  abbrev written_node : ℕ → ℕ → ℕ → List ℕ → Forest → Node Plain
-  written_node n p k name below = record { rule = rule_named g name; parent = Some p; place = suc k; items = items g (suc n) below }
+  abbrev written_node : ℕ → ℕ → ℕ → List ℕ → Coordinates → Forest → Node Plain
+  written_node n p k name c below = table_node (rule_named g name) (Some p) (suc k) c (items g (suc n) below)
 
-  this_node : (n p k : ℕ) (name : List ℕ) (below : Forest) → HasName rules texts t n name → AreWritten rules texts t (suc n) below (items_of t n) → slice_get (items_of t p) k ≡ Some (Child n)
-      → slice_get t n ≡ Some (written_node n p k name below)
-  this_node n p k name below has low at =
+  this_node : (n p k : ℕ) (name : List ℕ) (c : Coordinates) (below : Forest) → HasName rules texts t n name → coordinates_of t n ≡ c → AreWritten rules texts t (suc n) c below (items_of t n) → slice_get (items_of t p) k ≡ Some (Child n)
+      → slice_get t n ≡ Some (written_node n p k name c below)
+  this_node n p k name c below has stands low at =
       let y = is_named n name has in
       let here = there t n (rule_of t n (shape_at shapes y.shape).rule.0 y.rule) in
       let x : Node Plain = here.0 in
-      here.1 ∙ ap (λ (z : Node Plain). Some z) (node_is x (written_node n p k name below)
+      here.1 ∙ ap (λ (z : Node Plain). Some z) (node_is x (written_node n p k name c below)
       (held (sym (ap (λ (o : Option (Node Plain)). option_map (λ (z : Node Plain). z.rule) o) here.1) ∙ y.rule) ∙ sym (named_rule name y.shape y.named))
       (sym (ap (λ (o : Option (Node Plain)). option_and_then (λ (z : Node Plain). z.parent) o) here.1) ∙ parent_is p k n at)
       (sym (ap (λ (o : Option (Node Plain)). elim o as (λ _. ℕ) [ None ↦ 0 | Some z ↦ z.place ]) here.1) ∙ fits.tree.places_agree p k n at)
-      (sym (ap (λ (o : Option (Node Plain)). elim o as (λ _. List (Item Plain)) [ None ↦ [] | Some z ↦ z.items ]) here.1) ∙ items_are below (suc n) (items_of t n) low))
+      (sym (ap (λ (o : Option (Node Plain)). elim o as (λ _. ℕ) [ None ↦ 0 | Some z ↦ z.line ]) here.1) ∙ ap (λ (d : Coordinates). d.line) stands)
+      (sym (ap (λ (o : Option (Node Plain)). elim o as (λ _. ℕ) [ None ↦ 0 | Some z ↦ z.column ]) here.1) ∙ ap (λ (d : Coordinates). d.column) stands)
+      (sym (ap (λ (o : Option (Node Plain)). elim o as (λ _. List (Item Plain)) [ None ↦ [] | Some z ↦ z.items ]) here.1) ∙ items_are below (suc n) c (items_of t n) low))
 
-  nodes_are : (f : Forest) (n p k : ℕ) (its : List (Item Plain)) → AreWritten rules texts t n f its → drop k (items_of t p) ≡ its → take (count f) (drop n t) ≡ nodes g n p k f
-  nodes_are none n p k its is at = refl
-  nodes_are (int from z after) n p k its (more, is, later) at = nodes_are after n p (suc k) more later (drop_split (items_of t p) k (Leaf (Int z)) more (at ∙ is)).1
-  nodes_are (string from text after) n p k its (more, is, later) at = nodes_are after n p (suc k) more later (drop_split (items_of t p) k (Leaf (Str text)) more (at ∙ is)).1
-  nodes_are (node from name_at name below end after) n p k its (more, is, has, low, later) at =
+  nodes_are : (f : Forest) (n p k : ℕ) (above : Coordinates) (its : List (Item Plain)) → AreWritten rules texts t n above f its → drop k (items_of t p) ≡ its → take (count f) (drop n t) ≡ nodes g n p k above f
+  nodes_are none n p k above its is at = refl
+  nodes_are (int from z after) n p k above its (more, is, later) at = nodes_are after n p (suc k) above more later (drop_split (items_of t p) k (Leaf (Int z)) more (at ∙ is)).1
+  nodes_are (string from text after) n p k above its (more, is, later) at = nodes_are after n p (suc k) above more later (drop_split (items_of t p) k (Leaf (Str text)) more (at ∙ is)).1
+  nodes_are (node from name_at name coordinates below end after) n p k above its (more, is, has, stands, low, later) at =
+      let c : Coordinates = own coordinates above in
       let split = drop_split (items_of t p) k (Child n) more (at ∙ is) in
-      ap (λ (l : Tree Plain). take (suc (count below + count after)) l) (drop_here t n (written_node n p k name below) (this_node n p k name below has low split.0))
-      ∙ ap (λ (l : Tree Plain). written_node n p k name below ∷ l)
+      ap (λ (l : Tree Plain). take (suc (count below + count after)) l) (drop_here t n (written_node n p k name c below) (this_node n p k name c below has stands low split.0))
+      ∙ ap (λ (l : Tree Plain). written_node n p k name c below ∷ l)
       (take_more (drop (suc n) t) (count below) (count after)
-      ∙ ap (λ (l : Tree Plain). l ++ take (count after) (drop (count below) (drop (suc n) t))) (nodes_are below (suc n) n 0 (items_of t n) low refl)
-      ∙ ap (λ (l : Tree Plain). nodes g (suc n) n 0 below ++ take (count after) l) (drop_drop t (suc n) (count below))
-      ∙ ap (λ (m : ℕ). nodes g (suc n) n 0 below ++ take (count after) (drop m t)) (let e : suc n + count below ≡ suc (n + count below) = omega arith in e)
-      ∙ ap (λ (l : Tree Plain). nodes g (suc n) n 0 below ++ l) (nodes_are after (suc (n + count below)) p (suc k) more later split.1))
+      ∙ ap (λ (l : Tree Plain). l ++ take (count after) (drop (count below) (drop (suc n) t))) (nodes_are below (suc n) n 0 c (items_of t n) low refl)
+      ∙ ap (λ (l : Tree Plain). nodes g (suc n) n 0 c below ++ take (count after) l) (drop_drop t (suc n) (count below))
+      ∙ ap (λ (m : ℕ). nodes g (suc n) n 0 c below ++ take (count after) (drop m t)) (let e : suc n + count below ≡ suc (n + count below) = omega arith in e)
+      ∙ ap (λ (l : Tree Plain). nodes g (suc n) n 0 c below ++ l) (nodes_are after (suc (n + count below)) p (suc k) above more later split.1))
 
-  table_by : (u : Tree Plain) (rule : ℕ) (below : Forest) → IsTree u → rule_at u 0 ≡ Some rule → items_of u 0 ≡ items g 1 below → take (count below) (drop 1 u) ≡ nodes g 1 0 0 below → length u ≡ suc (count below)
-      → table g rule below ≡ u
-  table_by [] rule below tree is its rest size = absurd (none-some _ is)
-  table_by (x ∷ u) rule below tree is its rest size =
-      let first : x ≡ record { rule = rule; parent = None; place = 0; items = items g 1 below } = node_is x (record { rule = rule; parent = None; place = 0; items = items g 1 below }) (held is) tree.root_first tree.root_place its in
-      ap (λ (l : Tree Plain). record { rule = rule; parent = None; place = 0; items = items g 1 below } ∷ l) (sym rest ∙ take_whole u (count below) (omega (arith, size)))
+  table_by : (u : Tree Plain) (rule : ℕ) (c : Coordinates) (below : Forest) → IsTree u → rule_at u 0 ≡ Some rule → coordinates_of u 0 ≡ c → items_of u 0 ≡ items g 1 below → take (count below) (drop 1 u) ≡ nodes g 1 0 0 c below → length u ≡ suc (count below)
+      → table g rule c below ≡ u
+  table_by [] rule c below tree is stands its rest size = absurd (none-some _ is)
+  table_by (x ∷ u) rule c below tree is stands its rest size =
+      let first : x ≡ table_node rule None 0 c (items g 1 below) = node_is x (table_node rule None 0 c (items g 1 below)) (held is) tree.root_first tree.root_place (ap (λ (d : Coordinates). d.line) stands) (ap (λ (d : Coordinates). d.column) stands) its in
+      ap (λ (l : Tree Plain). table_node rule None 0 c (items g 1 below) ∷ l) (sym rest ∙ take_whole u (count below) (omega (arith, size)))
       ∙ ap (λ (y : Node Plain). y ∷ u) (sym first)
 
   root_test : (x : ℕ) → rule_at t 0 ≡ Some (shape_at shapes x).rule.0 → g.is_root x ≡ true
   root_test x rule = ap (λ (o : Option SymId). elim o as (λ _. Bool) [ None ↦ false | Some s ↦ is_same_symbol s root ]) (left_known 0 x root rule fits.root_node) ∙ symbol_same root
 
   -- a tree that fits and is not too large is what its text means
-  pub fits_read : (name_at : ℕ) (name : List ℕ) (below : Forest) (end : ℕ) → length t ≤ most_nodes → IsWrittenAs rules texts t name below → meaning g name_at name below end ≡ Ok t
-  fits_read name_at name below end few (has, low, size) =
+  pub fits_read : (name_at : ℕ) (name : List ℕ) (coordinates : Option Coordinates) (below : Forest) (end : ℕ) → length t ≤ most_nodes → IsWrittenAs rules texts t name coordinates below → meaning g name_at name coordinates below end ≡ Ok t
+  fits_read name_at name coordinates below end few (has, stands, low, size) =
+      let c : Coordinates = own coordinates no_coordinates in
       let y = is_named 0 name has in
-      let whole : Tree Plain = table g (shape_at shapes y.shape).rule.0 below in
+      let whole : Tree Plain = table g (shape_at shapes y.shape).rule.0 c below in
       ap (λ (o : Option ℕ). elim o as (λ _. Result (Tree Plain) TreeFault) [
         | None ↦ Err (fault.UnknownRule name_at)
-        | Some x ↦ if g.is_root x then unless_fault (table g (g.rule x) below) (fault_among g x 0 1 below end) else Err (fault.WrongRoot name_at)
+        | Some x ↦ if g.is_root x then unless_fault (table g (g.rule x) c below) (fault_among g x 0 1 below end) else Err (fault.WrongRoot name_at)
       ]) y.named
       ∙ ap (λ (b : Bool). if b then unless_fault whole (fault_among g y.shape 0 1 below end) else Err (fault.WrongRoot name_at)) (root_test y.shape y.rule)
-      ∙ ap (λ (o : Option TreeFault). unless_fault whole o) (free below y.shape 0 1 end (items_of t 0) y.there (children_of 0 y.shape y.there y.rule) low (omega (arith, few, size)))
-      ∙ ap (λ (u : Tree Plain). Ok u) (table_by t (shape_at shapes y.shape).rule.0 below fits.tree y.rule (items_are below 1 (items_of t 0) low) (nodes_are below 1 0 0 (items_of t 0) low refl) size)
+      ∙ ap (λ (o : Option TreeFault). unless_fault whole o) (free below y.shape 0 1 end c (items_of t 0) y.there (children_of 0 y.shape y.there y.rule) low (omega (arith, few, size)))
+      ∙ ap (λ (u : Tree Plain). Ok u) (table_by t (shape_at shapes y.shape).rule.0 c below fits.tree y.rule stands (items_are below 1 c (items_of t 0) low) (nodes_are below 1 0 0 c (items_of t 0) low refl) size)

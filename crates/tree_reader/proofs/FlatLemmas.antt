@@ -56,13 +56,13 @@ module _ (symbols : List FlatSymbol) (rules : List FlatRule) where
 
 module _ (symbols : List FlatSymbol) (rules : List FlatRule) (shapes : List Shape) (root : SymId) (well : IsWellFormed symbols rules shapes root)
     (W : Tree Plain) (fits : IsFitting symbols rules shapes root W) (F : Tree Plain) (ns : List ℕ)
-    (f : IsFlatTree symbols rules shapes W F ns) where
+    (f : IsFlatTree rules shapes W F ns) where
   -- what is said of another flat tree is said of this one
-  too_many : (G : Tree Plain) (ms : List ℕ) → IsFlatTree symbols rules shapes W G ms → (e : TreeFault) → HasTooMany symbols rules G e
+  too_many : (G : Tree Plain) (ms : List ℕ) → IsFlatTree rules shapes W G ms → (e : TreeFault) → HasTooMany symbols rules G e
       → HasTooMany symbols rules F e
   too_many G ms g e many = subst (λ T. HasTooMany symbols rules T e) (same_fitting symbols rules shapes root well W fits G F ms ns g f).0 many
 
-  is_within : (G : Tree Plain) (ms : List ℕ) → IsFlatTree symbols rules shapes W G ms → IsWithinLimits symbols rules G
+  is_within : (G : Tree Plain) (ms : List ℕ) → IsFlatTree rules shapes W G ms → IsWithinLimits symbols rules G
       → IsWithinLimits symbols rules F
   is_within G ms g within = subst (λ T. IsWithinLimits symbols rules T) (same_fitting symbols rules shapes root well W fits G F ms ns g f).0 within
 
@@ -141,7 +141,7 @@ module _ (symbols : List FlatSymbol) (rules : List FlatRule) (shapes : List Shap
   module _ (well : IsWellFormed symbols rules shapes root) (later : List (List ℕ)) (W : Tree Value)
       (read : IsThe (WrittenOf symbols rules shapes root texts text) (Ok (plain_tree later W)))
       (fits : IsFitting symbols rules shapes root (plain_tree later W)) where
-    trees_value : (F : Tree Value) (ns : List ℕ) → IsFlatTree symbols rules shapes W F ns → IsWithinLimits symbols rules F
+    trees_value : (F : Tree Value) (ns : List ℕ) → IsFlatTree rules shapes W F ns → IsWithinLimits symbols rules F
         → IsThe (TreesOf symbols rules shapes root texts text) (Ok (plain_tree later W, plain_tree later F, ns))
     trees_value F ns f within = trees_next (plain_tree later W) _ read
         (with_value (plain_tree later W) (FlatOf symbols rules shapes (plain_tree later W)) (plain_tree later F) ns
@@ -158,7 +158,7 @@ module _ (symbols : List FlatSymbol) (rules : List FlatRule) (shapes : List Shap
 
     -- what the written tree flattens to
     pub trees_given : (r : Result Trees TreeFault) → IfOk r (λ trees. trees.written ≡ W)
-        → IfOk r (λ trees. IsFlatTree symbols rules shapes W trees.flat trees.node_of)
+        → IfOk r (λ trees. IsFlatTree rules shapes W trees.flat trees.node_of)
         → IfOk r (λ trees. IsWithinLimits symbols rules trees.flat) → IfErr r (λ e. IsRefused symbols rules shapes W e)
         → Gives (λ (trees : Trees). (plain_tree later trees.written, plain_tree later trees.flat, trees.node_of))
         (TreesOf symbols rules shapes root texts text) fault.Memory r

@@ -1,9 +1,10 @@
 -- The numbers of parts and of what they are the parts of.
-use Rattle.std.proofs.Common.{◌≡◌, ℕ, ◌+◌, ◌<◌, ◌≤◌, List, [], ◌∷◌, ◌++◌, take, length, get_or, Result, Ok, Err, sym, ◌∙◌, subst, arith, append_assoc, suc, zero}
+use Rattle.std.proofs.Common.{◌≡◌, ℕ, ◌+◌, ◌<◌, ◌≤◌, Option, List, [], ◌∷◌, ◌++◌, take, length, get_or, Result, Ok, Err, sym, ◌∙◌, subst, arith, append_assoc, suc, zero}
 use Rattle.std.specs.Prelude.{OnOk}
 use Rattle.tree_reader.specs.Language.{Forest, none, node, int, string, parts_of}
-use Rattle.tree_reader.specs.Writing.{IsFirst}
+use Rattle.tree_reader.specs.Writing.{IsFirstPart}
 use Rattle.tree_reader.specs.Ints.{HasInts, HasInt, HaveInts}
+use Rattle.tree_reader.specs.declared.part.Coordinates.{Coordinates}
 use Rattle.tree_reader.specs.declared.part.Part.{Part}
 use Rattle.tree_reader.specs.declared.part.Part.TheVariants as part
 
@@ -34,15 +35,15 @@ ints_of : (f : Forest) (more : List Part) → HaveInts (parts_of f ++ more) → 
 ints_of none more have = record { forest = tt; behind = have }
 ints_of (int at value after) more (first, have) = let rest = ints_of after more have in record { forest = (first, rest.forest); behind = rest.behind }
 ints_of (string at text after) more (first, have) = let rest = ints_of after more have in record { forest = rest.forest; behind = rest.behind }
-ints_of (node at name_at name below end after) more (first, have) =
+ints_of (node at name_at name coordinates below end after) more (first, have) =
     let inner = ints_of below (part.End end ∷ (parts_of after ++ more)) (subst HaveInts (append_assoc (parts_of below) (part.End end ∷ parts_of after) more) have) in
     let outer = ints_of after more inner.behind.1 in
     record { forest = (inner.forest, outer.forest); behind = outer.behind }
 
 -- the numbers below the first node, where those of the parts behind its name fit
-pub below_first : (parts : List Part) (at name_at : ℕ) (name : List ℕ) (below : Forest) (end from : ℕ) (other : List ℕ) (rest : List Part)
-    → parts ≡ parts_of (node at name_at name below end none) → IsFirst parts from other rest → HaveInts rest → HasInts below
-below_first parts at name_at name below end from other rest is (first_at, low, close, too, behind) have =
-    let whole : part.Begin at name_at name ∷ (parts_of below ++ (part.End end ∷ [])) ≡ part.Begin first_at from other ∷ (parts_of low ++ (part.End close ∷ [])) = sym is ∙ too in
+pub below_first : (parts : List Part) (at name_at : ℕ) (name : List ℕ) (coordinates : Option Coordinates) (below : Forest) (end from : ℕ) (other : List ℕ) (others : Option Coordinates) (rest : List Part)
+    → parts ≡ parts_of (node at name_at name coordinates below end none) → IsFirstPart parts from other others rest → HaveInts rest → HasInts below
+below_first parts at name_at name coordinates below end from other others rest is (first_at, low, close, too, behind) have =
+    let whole : part.Begin at name_at name coordinates ∷ (parts_of below ++ (part.End end ∷ [])) ≡ part.Begin first_at from other others ∷ (parts_of low ++ (part.End close ∷ [])) = sym is ∙ too in
     let tail : parts_of below ++ (part.End end ∷ []) ≡ parts_of low ++ (part.End close ∷ []) = cc whole in
     (ints_of below (part.End end ∷ []) (subst HaveInts (behind ∙ sym tail) have)).forest

@@ -10,32 +10,33 @@ use Rattle.lido_base.specs.declared.value.Value.{Value}
 use Rattle.lido_base.specs.declared.value.Value.TheVariants as value
 use Rattle.lido_base.specs.declared.value.ValueType.TheVariants as type
 use Rattle.lido_lexer.specs.Lexing.{Gains}
+use Rattle.lido_base.proofs.PlainLemmas.{plain_length, plain_line, plain_column}
 use Rattle.tree_store.specs.Growth.{IsOpen}
 use Rattle.tree_store.specs.declared.fault.TreeFault.{TreeFault}
 use Rattle.tree_store.specs.declared.fault.TreeFault.TheVariants as fault
 use Rattle.tree_store.proofs.GrowthLemmas.{length-with_item, parent_of-with_item, parent_of_last}
 use Rattle.tree_store.proofs.OpenLemmas.{open_upwards, parent_kept}
 use Rattle.tree_reader.specs.Language.{Forest, none, node, int, string, parts_of}
-use Rattle.tree_reader.specs.WrittenTrees.{Asked, Frame, resume, node_fault}
+use Rattle.tree_reader.specs.WrittenTrees.{Asked, Frame, resume, node_fault, coordinates_of, own}
 use Rattle.tree_reader.specs.Writing.{AreOpen, CanGrow, AreLeft, MakesOf}
+use Rattle.tree_reader.specs.declared.part.Coordinates.{Coordinates}
 use Rattle.tree_reader.specs.declared.part.Part.{Part}
 use Rattle.tree_reader.specs.declared.part.Part.TheVariants as part
 use Rattle.tree_reader.specs.declared.writer.Open.{Open}
-use Rattle.tree_reader.proofs.Filling.{places_with, items_left, items_last, resume_int, resume_no_int, resume_text, resume_no_text, resume_end, resume_no_end, resume_node, resume_no_node}
+use Rattle.tree_reader.proofs.Filling.{places_with, items_left, items_last, resume_int, resume_no_int, resume_text, resume_no_text, resume_end, resume_no_end, grown, resume_node, resume_no_node}
 
 -- ---- the tree of plain values
 
 abbrev plain_node : List (List ℕ) → Node Value → Node Plain
-plain_node texts n = record { rule = n.rule; parent = n.parent; place = n.place; items = map (plain_item texts) n.items }
+plain_node texts n = record { rule = n.rule; parent = n.parent; place = n.place; line = n.line; column = n.column; items = map (plain_item texts) n.items }
 
 plain_with_item : (texts : List (List ℕ)) (t : Tree Value) (p : ℕ) (x : Item Value) → plain_tree texts (with_item t p x) ≡ with_item (plain_tree texts t) p (plain_item texts x)
 plain_with_item texts [] p x = refl
-plain_with_item texts (n ∷ t) zero x = ap (λ (l : List (Item Plain)). record { rule = n.rule; parent = n.parent; place = n.place; items = l } ∷ plain_tree texts t) (map-append (plain_item texts) n.items (x ∷ []))
+plain_with_item texts (n ∷ t) zero x = ap (λ (l : List (Item Plain)). record { rule = n.rule; parent = n.parent; place = n.place; line = n.line; column = n.column; items = l } ∷ plain_tree texts t) (map-append (plain_item texts) n.items (x ∷ []))
 plain_with_item texts (n ∷ t) (suc p) x = ap (λ (l : Tree Plain). plain_node texts n ∷ l) (plain_with_item texts t p x)
 
-plain_length : (texts : List (List ℕ)) (t : Tree Value) → length (plain_tree texts t) ≡ length t
-plain_length texts [] = refl
-plain_length texts (n ∷ t) = ap suc (plain_length texts t)
+plain_coordinates : (texts : List (List ℕ)) (t : Tree Value) (q : ℕ) → coordinates_of (plain_tree texts t) q ≡ coordinates_of t q
+plain_coordinates texts t q = λ i. record { line = plain_line texts t q i; column = plain_column texts t q i }
 
 mapped : {X Y : Type 0} (f : X → Y) (xs : List X) → length (map f xs) ≡ length xs
 mapped f [] = refl
@@ -50,12 +51,12 @@ plain_append : (texts : List (List ℕ)) (t u : Tree Value) → plain_tree texts
 plain_append texts [] u = refl
 plain_append texts (n ∷ t) u = ap (λ (l : Tree Plain). plain_node texts n ∷ l) (plain_append texts t u)
 
-plain_with_node : (texts : List (List ℕ)) (t : Tree Value) (rule p : ℕ) → plain_tree texts (with_node t rule (Some p)) ≡ with_node (plain_tree texts t) rule (Some p)
-plain_with_node texts t rule p =
-    plain_append texts (with_item t p (Child (length t))) (record { rule = rule; parent = Some p; place = places t p + 1; items = [] } ∷ [])
-    ∙ ap (λ (l : Tree Plain). l ++ (record { rule = rule; parent = Some p; place = places t p + 1; items = [] } ∷ [])) (plain_with_item texts t p (Child (length t)))
-    ∙ ap (λ (n : ℕ). with_item (plain_tree texts t) p (Child n) ++ (record { rule = rule; parent = Some p; place = places t p + 1; items = [] } ∷ [])) (sym (plain_length texts t))
-    ∙ ap (λ (n : ℕ). with_item (plain_tree texts t) p (Child (length (plain_tree texts t))) ++ (record { rule = rule; parent = Some p; place = n + 1; items = [] } ∷ [])) (sym (plain_places texts t p))
+plain_with_node : (texts : List (List ℕ)) (t : Tree Value) (rule p line column : ℕ) → plain_tree texts (with_node t rule (Some p) line column) ≡ with_node (plain_tree texts t) rule (Some p) line column
+plain_with_node texts t rule p line column =
+    plain_append texts (with_item t p (Child (length t))) (record { rule = rule; parent = Some p; place = places t p + 1; line = line; column = column; items = [] } ∷ [])
+    ∙ ap (λ (l : Tree Plain). l ++ (record { rule = rule; parent = Some p; place = places t p + 1; line = line; column = column; items = [] } ∷ [])) (plain_with_item texts t p (Child (length t)))
+    ∙ ap (λ (n : ℕ). with_item (plain_tree texts t) p (Child n) ++ (record { rule = rule; parent = Some p; place = places t p + 1; line = line; column = column; items = [] } ∷ [])) (sym (plain_length texts t))
+    ∙ ap (λ (n : ℕ). with_item (plain_tree texts t) p (Child (length (plain_tree texts t))) ++ (record { rule = rule; parent = Some p; place = n + 1; line = line; column = column; items = [] } ∷ [])) (sym (plain_places texts t p))
 
 -- ---- open nodes
 
@@ -100,28 +101,28 @@ open_after_leaf t shapes most o os v (inside, has, few, shape, parent, rest) = (
       (record { counts = λ q low. ap length (items_other t o.node q (Leaf v) low); parents = λ q low. parent_of-with_item t o.node (Leaf v) q }) (omega arith) rest,
 )
 
-grown_length : (t : Tree Value) (rule p : ℕ) → length (with_node t rule (Some p)) ≡ suc (length t)
-grown_length t rule p = omega (arith, length-append (with_item t p (Child (length t))) (record { rule = rule; parent = Some p; place = places t p + 1; items = [] } ∷ []), length-with_item t p (Child (length t)))
+grown_length : (t : Tree Value) (rule p line column : ℕ) → length (with_node t rule (Some p) line column) ≡ suc (length t)
+grown_length t rule p line column = omega (arith, length-append (with_item t p (Child (length t))) (record { rule = rule; parent = Some p; place = places t p + 1; line = line; column = column; items = [] } ∷ []), length-with_item t p (Child (length t)))
 
-grown_places : (t : Tree Value) (rule p q : ℕ) → q < length t → places (with_node t rule (Some p)) q ≡ places (with_item t p (Child (length t))) q
-grown_places t rule p q less = ap length (items_left (with_item t p (Child (length t))) (record { rule = rule; parent = Some p; place = places t p + 1; items = [] } ∷ []) q (omega (arith, less, length-with_item t p (Child (length t)))))
+grown_places : (t : Tree Value) (rule p line column q : ℕ) → q < length t → places (with_node t rule (Some p) line column) q ≡ places (with_item t p (Child (length t))) q
+grown_places t rule p line column q less = ap length (items_left (with_item t p (Child (length t))) (record { rule = rule; parent = Some p; place = places t p + 1; line = line; column = column; items = [] } ∷ []) q (omega (arith, less, length-with_item t p (Child (length t)))))
 
-pub open_after_node : (t : Tree Value) (shapes most rule : ℕ) (o new : Open) (os : List Open) → AreOpen t shapes most (length t) (o ∷ os) → new.node ≡ length t → new.has ≡ 0 → new.shape < shapes
-    → AreOpen (with_node t rule (Some o.node)) shapes (most + 1) (length (with_node t rule (Some o.node))) (new ∷ with_one_more o ∷ os)
-open_after_node t shapes most rule o new os (inside, has, few, shape, parent, rest) number empty fits = (
-  omega (arith, number, grown_length t rule o.node),
-  empty ∙ sym (ap length (items_last (with_item t o.node (Child (length t))) (record { rule = rule; parent = Some o.node; place = places t o.node + 1; items = [] }) new.node (number ∙ sym (length-with_item t o.node (Child (length t)))))),
+pub open_after_node : (t : Tree Value) (shapes most rule line column : ℕ) (o new : Open) (os : List Open) → AreOpen t shapes most (length t) (o ∷ os) → new.node ≡ length t → new.has ≡ 0 → new.shape < shapes
+    → AreOpen (with_node t rule (Some o.node) line column) shapes (most + 1) (length (with_node t rule (Some o.node) line column)) (new ∷ with_one_more o ∷ os)
+open_after_node t shapes most rule line column o new os (inside, has, few, shape, parent, rest) number empty fits = (
+  omega (arith, number, grown_length t rule o.node line column),
+  empty ∙ sym (ap length (items_last (with_item t o.node (Child (length t))) (record { rule = rule; parent = Some o.node; place = places t o.node + 1; line = line; column = column; items = [] }) new.node (number ∙ sym (length-with_item t o.node (Child (length t)))))),
   omega (arith, empty),
   fits,
-  parent_of_last (with_item t o.node (Child (length t))) (record { rule = rule; parent = Some o.node; place = places t o.node + 1; items = [] }) new.node (number ∙ sym (length-with_item t o.node (Child (length t)))),
+  parent_of_last (with_item t o.node (Child (length t))) (record { rule = rule; parent = Some o.node; place = places t o.node + 1; line = line; column = column; items = [] }) new.node (number ∙ sym (length-with_item t o.node (Child (length t)))),
   (
     omega (arith, inside, number),
-    omega (arith, has, grown_places t rule o.node o.node inside, places_with t o.node (Child (length t)) inside),
+    omega (arith, has, grown_places t rule o.node line column o.node inside, places_with t o.node (Child (length t)) inside),
     omega (arith, few),
     shape,
-    parent_kept t rule o.node o.node inside ∙ parent,
-    still_open t (with_node t rule (Some o.node)) shapes most (most + 1) o.node os
-        (record { counts = λ q low. grown_places t rule o.node q (omega (arith, low, inside)) ∙ ap length (items_other t o.node q (Child (length t)) low); parents = λ q low. parent_kept t rule o.node q (omega (arith, low, inside)) }) (omega arith) rest,
+    parent_kept t rule o.node line column o.node inside ∙ parent,
+    still_open t (with_node t rule (Some o.node) line column) shapes most (most + 1) o.node os
+        (record { counts = λ q low. grown_places t rule o.node line column q (omega (arith, low, inside)) ∙ ap length (items_other t o.node q (Child (length t)) low); parents = λ q low. parent_kept t rule o.node line column q (omega (arith, low, inside)) }) (omega arith) rest,
   ),
 )
 
@@ -193,7 +194,7 @@ module _ (g : Asked ℕ) (texts : List (List ℕ)) (t : Tree Value) (o : Open) (
       → AreLeft os fs later → answer ≡ resume g (f ∷ fs) P → ((l : List (List ℕ)) → plain_tree (texts ++ l) t ≡ P) → g.takes_value o.shape o.has type.Int ≡ true
       → MakesOf g texts (with_item t o.node (Leaf (value.Int z))) (with_one_more o ∷ os) more answer
   int_goes at z more later answer none is e left comes stable takes = absurd (cc)
-  int_goes at z more later answer (node from name_from name below end after) is e left comes stable takes = absurd (cc)
+  int_goes at z more later answer (node from name_from name others below end after) is e left comes stable takes = absurd (cc)
   int_goes at z more later answer (string from text after) is e left comes stable takes = absurd (cc)
   int_goes at z more later answer (int from y after) is e left comes stable takes = record {
     frames = with_rest after ∷ fs;
@@ -208,7 +209,7 @@ module _ (g : Asked ℕ) (texts : List (List ℕ)) (t : Tree Value) (o : Open) (
   pub int_stops : (at : ℕ) (z : ℤ) (more later : List Part) (answer : Result (Tree Plain) TreeFault) (rest : Forest) → f.rest ≡ rest → part.Int at z ∷ more ≡ parts_of rest ++ (part.End f.close ∷ later)
       → answer ≡ resume g (f ∷ fs) P → g.takes_value o.shape o.has type.Int ≡ false → answer ≡ Err (fault.WrongChild at)
   int_stops at z more later answer none is e comes takes = absurd (cc)
-  int_stops at z more later answer (node from name_from name below end after) is e comes takes = absurd (cc)
+  int_stops at z more later answer (node from name_from name others below end after) is e comes takes = absurd (cc)
   int_stops at z more later answer (string from text after) is e comes takes = absurd (cc)
   int_stops at z more later answer (int from y after) is e comes takes = comes ∙ same_frame (int from y after) is
       ∙ resume_no_int g o.node o.shape from y after f.close fs P (subst (λ (k : ℕ). g.takes_value o.shape k type.Int ≡ false) (sym counted) takes)
@@ -219,7 +220,7 @@ module _ (g : Asked ℕ) (texts : List (List ℕ)) (t : Tree Value) (o : Open) (
       → AreLeft os fs later → answer ≡ resume g (f ∷ fs) P → ((l : List (List ℕ)) → plain_tree (texts ++ l) t ≡ P) → g.takes_value o.shape o.has type.Str ≡ true
       → MakesOf g texts (with_item t o.node (Leaf (value.Str id))) (with_one_more o ∷ os) more answer
   text_goes at text id more later answer none is e there left comes stable takes = absurd (cc)
-  text_goes at text id more later answer (node from name_from name below end after) is e there left comes stable takes = absurd (cc)
+  text_goes at text id more later answer (node from name_from name others below end after) is e there left comes stable takes = absurd (cc)
   text_goes at text id more later answer (int from y after) is e there left comes stable takes = absurd (cc)
   text_goes at text id more later answer (string from y after) is e there left comes stable takes = record {
     frames = with_rest after ∷ fs;
@@ -235,7 +236,7 @@ module _ (g : Asked ℕ) (texts : List (List ℕ)) (t : Tree Value) (o : Open) (
   pub text_stops : (at : ℕ) (text : List ℕ) (more later : List Part) (answer : Result (Tree Plain) TreeFault) (rest : Forest) → f.rest ≡ rest → part.Str at text ∷ more ≡ parts_of rest ++ (part.End f.close ∷ later)
       → answer ≡ resume g (f ∷ fs) P → g.takes_value o.shape o.has type.Str ≡ false → answer ≡ Err (fault.WrongChild at)
   text_stops at z more later answer none is e comes takes = absurd (cc)
-  text_stops at z more later answer (node from name_from name below end after) is e comes takes = absurd (cc)
+  text_stops at z more later answer (node from name_from name others below end after) is e comes takes = absurd (cc)
   text_stops at z more later answer (int from text after) is e comes takes = absurd (cc)
   text_stops at z more later answer (string from y after) is e comes takes = comes ∙ same_frame (string from y after) is
       ∙ resume_no_text g o.node o.shape from y after f.close fs P (subst (λ (k : ℕ). g.takes_value o.shape k type.Str ≡ false) (sym counted) takes)
@@ -245,7 +246,7 @@ module _ (g : Asked ℕ) (texts : List (List ℕ)) (t : Tree Value) (o : Open) (
       → AreLeft os fs later → answer ≡ resume g (f ∷ fs) P → ((l : List (List ℕ)) → plain_tree (texts ++ l) t ≡ P) → g.is_enough o.shape o.has ≡ true
       → MakesOf g texts t os more answer
   end_goes at more later answer (int from y after) is e left comes stable takes = absurd (cc)
-  end_goes at more later answer (node from name_from name below end after) is e left comes stable takes = absurd (cc)
+  end_goes at more later answer (node from name_from name others below end after) is e left comes stable takes = absurd (cc)
   end_goes at more later answer (string from text after) is e left comes stable takes = absurd (cc)
   end_goes at more later answer none is e left comes stable takes = record {
     frames = fs;
@@ -257,24 +258,28 @@ module _ (g : Asked ℕ) (texts : List (List ℕ)) (t : Tree Value) (o : Open) (
   pub end_stops : (at : ℕ) (more later : List Part) (answer : Result (Tree Plain) TreeFault) (rest : Forest) → f.rest ≡ rest → part.End at ∷ more ≡ parts_of rest ++ (part.End f.close ∷ later)
       → answer ≡ resume g (f ∷ fs) P → g.is_enough o.shape o.has ≡ false → answer ≡ Err (fault.WrongChild at)
   end_stops at more later answer (int from y after) is e comes takes = absurd (cc)
-  end_stops at more later answer (node from name_from name below end after) is e comes takes = absurd (cc)
+  end_stops at more later answer (node from name_from name others below end after) is e comes takes = absurd (cc)
   end_stops at more later answer (string from text after) is e comes takes = absurd (cc)
   end_stops at more later answer none is e comes takes = comes ∙ same_frame none is ∙ resume_no_end g o.node o.shape f.close fs P (subst (λ (k : ℕ). g.is_enough o.shape k ≡ false) (sym counted) takes)
       ∙ ap (λ (n : ℕ). Err (fault.WrongChild n)) (let same : f.close ≡ at = cc in same)
 
-  node_stays : (l : List (List ℕ)) (rule : ℕ) → plain_tree (texts ++ l) t ≡ P → plain_tree (texts ++ l) (with_node t rule (Some o.node)) ≡ plain_tree texts (with_node t rule (Some o.node))
-  node_stays l rule stable = plain_with_node (texts ++ l) t rule o.node ∙ ap (λ (u : Tree Plain). with_node u rule (Some o.node)) stable ∙ sym (plain_with_node texts t rule o.node)
+  node_stays : (l : List (List ℕ)) (rule line column : ℕ) → plain_tree (texts ++ l) t ≡ P → plain_tree (texts ++ l) (with_node t rule (Some o.node) line column) ≡ plain_tree texts (with_node t rule (Some o.node) line column)
+  node_stays l rule line column stable = plain_with_node (texts ++ l) t rule o.node line column ∙ ap (λ (u : Tree Plain). with_node u rule (Some o.node) line column) stable ∙ sym (plain_with_node texts t rule o.node line column)
 
-  pub node_goes : (at name_at : ℕ) (name : List ℕ) (new : Open) (more later : List Part) (answer : Result (Tree Plain) TreeFault) (rest : Forest) → f.rest ≡ rest
-      → part.Begin at name_at name ∷ more ≡ parts_of rest ++ (part.End f.close ∷ later)
+  -- the coordinates of a node below the innermost one
+  abbrev pub placed : Option Coordinates → Coordinates
+  placed coordinates = own coordinates (coordinates_of t o.node)
+
+  pub node_goes : (at name_at : ℕ) (name : List ℕ) (coordinates : Option Coordinates) (new : Open) (more later : List Part) (answer : Result (Tree Plain) TreeFault) (rest : Forest) → f.rest ≡ rest
+      → part.Begin at name_at name coordinates ∷ more ≡ parts_of rest ++ (part.End f.close ∷ later)
       → AreLeft os fs later → answer ≡ resume g (f ∷ fs) P → ((l : List (List ℕ)) → plain_tree (texts ++ l) t ≡ P)
       → new.node ≡ length t → g.named name ≡ Some new.shape → node_fault g o.shape o.has (length t) at name_at name ≡ None
-      → MakesOf g texts (with_node t (g.rule new.shape) (Some o.node)) (new ∷ with_one_more o ∷ os) more answer
-  node_goes at name_at name new more later answer none is e left comes stable number named free = absurd (cc)
-  node_goes at name_at name new more later answer (int from z after) is e left comes stable number named free = absurd (cc)
-  node_goes at name_at name new more later answer (string from text after) is e left comes stable number named free = absurd (cc)
-  node_goes at name_at name new more later answer (node from name_from text below end after) is e left comes stable number named free =
-      let first : part.Begin at name_at name ≡ part.Begin from name_from text = cc in
+      → MakesOf g texts (with_node t (g.rule new.shape) (Some o.node) (placed coordinates).line (placed coordinates).column) (new ∷ with_one_more o ∷ os) more answer
+  node_goes at name_at name coordinates new more later answer none is e left comes stable number named free = absurd (cc)
+  node_goes at name_at name coordinates new more later answer (int from z after) is e left comes stable number named free = absurd (cc)
+  node_goes at name_at name coordinates new more later answer (string from text after) is e left comes stable number named free = absurd (cc)
+  node_goes at name_at name coordinates new more later answer (node from name_from text others below end after) is e left comes stable number named free =
+      let same_coordinates : coordinates ≡ others = cc in
       let same_name : name ≡ text = cc in
       let same_at : at ≡ from = cc in
       let same_name_at : name_at ≡ name_from = cc in
@@ -293,27 +298,29 @@ module _ (g : Asked ℕ) (texts : List (List ℕ)) (t : Tree Value) (o : Open) (
           (let tail : more ≡ (parts_of below ++ (part.End end ∷ parts_of after)) ++ (part.End f.close ∷ later) = cc in tail ∙ append_assoc (parts_of below) (part.End end ∷ parts_of after) (part.End f.close ∷ later)),
           (refl, refl, later, refl, left),
         );
-        comes = comes ∙ same_frame (node from name_from text below end after) is
-            ∙ resume_node g o.node o.shape from name_from text below end after f.close fs P new.shape inside_plain (ap g.named (sym same_name) ∙ named) free''
-            ∙ ap (λ (n : ℕ). resume g (record { at = n; shape = new.shape; rest = below; close = end } ∷ with_rest after ∷ fs) (with_node P (g.rule new.shape) (Some o.node))) (plain_length texts t ∙ sym number)
-            ∙ ap (λ (u : Tree Plain). resume g (record { at = new.node; shape = new.shape; rest = below; close = end } ∷ with_rest after ∷ fs) u) (sym (plain_with_node texts t (g.rule new.shape) o.node));
-        stable = λ l. node_stays l (g.rule new.shape) (stable l);
+        comes = comes ∙ same_frame (node from name_from text others below end after) is
+            ∙ resume_node g o.node o.shape from name_from text others below end after f.close fs P new.shape inside_plain (ap g.named (sym same_name) ∙ named) free''
+            ∙ ap (λ (n : ℕ). resume g (record { at = n; shape = new.shape; rest = below; close = end } ∷ with_rest after ∷ fs) (grown g P (g.rule new.shape) o.node (own others (coordinates_of P o.node)))) (plain_length texts t ∙ sym number)
+            ∙ ap (λ (d : Coordinates). resume g (record { at = new.node; shape = new.shape; rest = below; close = end } ∷ with_rest after ∷ fs) (grown g P (g.rule new.shape) o.node (own others d))) (plain_coordinates texts t o.node)
+            ∙ ap (λ (d : Option Coordinates). resume g (record { at = new.node; shape = new.shape; rest = below; close = end } ∷ with_rest after ∷ fs) (grown g P (g.rule new.shape) o.node (placed d))) (sym same_coordinates)
+            ∙ ap (λ (u : Tree Plain). resume g (record { at = new.node; shape = new.shape; rest = below; close = end } ∷ with_rest after ∷ fs) u) (sym (plain_with_node texts t (g.rule new.shape) o.node (placed coordinates).line (placed coordinates).column));
+        stable = λ l. node_stays l (g.rule new.shape) (placed coordinates).line (placed coordinates).column (stable l);
       }
 
-  pub node_stops : (at name_at : ℕ) (name : List ℕ) (e' : TreeFault) (more later : List Part) (answer : Result (Tree Plain) TreeFault) (rest : Forest) → f.rest ≡ rest
-      → part.Begin at name_at name ∷ more ≡ parts_of rest ++ (part.End f.close ∷ later)
+  pub node_stops : (at name_at : ℕ) (name : List ℕ) (coordinates : Option Coordinates) (e' : TreeFault) (more later : List Part) (answer : Result (Tree Plain) TreeFault) (rest : Forest) → f.rest ≡ rest
+      → part.Begin at name_at name coordinates ∷ more ≡ parts_of rest ++ (part.End f.close ∷ later)
       → answer ≡ resume g (f ∷ fs) P → node_fault g o.shape o.has (length t) at name_at name ≡ Some e' → answer ≡ Err e'
-  node_stops at name_at name e' more later answer none is e comes stops = absurd (cc)
-  node_stops at name_at name e' more later answer (int from z after) is e comes stops = absurd (cc)
-  node_stops at name_at name e' more later answer (string from text after) is e comes stops = absurd (cc)
-  node_stops at name_at name e' more later answer (node from name_from text below end after) is e comes stops =
+  node_stops at name_at name coordinates e' more later answer none is e comes stops = absurd (cc)
+  node_stops at name_at name coordinates e' more later answer (int from z after) is e comes stops = absurd (cc)
+  node_stops at name_at name coordinates e' more later answer (string from text after) is e comes stops = absurd (cc)
+  node_stops at name_at name coordinates e' more later answer (node from name_from text others below end after) is e comes stops =
       let same_name : name ≡ text = cc in
       let same_at : at ≡ from = cc in
       let same_name_at : name_at ≡ name_from = cc in
       let stops' : node_fault g o.shape o.has (length t) from name_from text ≡ Some e' =
       subst (λ (l : List ℕ). node_fault g o.shape o.has (length t) from name_from l ≡ Some e') same_name
       (subst (λ (n : ℕ). node_fault g o.shape o.has (length t) from n name ≡ Some e') same_name_at (subst (λ (n : ℕ). node_fault g o.shape o.has (length t) n name_at name ≡ Some e') same_at stops)) in
-      comes ∙ same_frame (node from name_from text below end after) is
-      ∙ resume_no_node g o.node o.shape from name_from text below end after f.close fs P e'
+      comes ∙ same_frame (node from name_from text others below end after) is
+      ∙ resume_no_node g o.node o.shape from name_from text others below end after f.close fs P e'
       (subst (λ (k : ℕ). node_fault g o.shape k (length P) from name_from text ≡ Some e') (sym counted)
       (subst (λ (k : ℕ). node_fault g o.shape o.has k from name_from text ≡ Some e') (sym (plain_length texts t)) stops'))

@@ -5,11 +5,12 @@ use Rattle.tree_store.specs.declared.fault.TreeFault.{TreeFault}
 use Rattle.tree_store.specs.declared.fault.TreeFault.TheVariants as fault
 use Rattle.tree_reader.specs.Language.{none, node, int, string, parts_of, IsOneNode}
 use Rattle.tree_reader.specs.Scanning.{Begun, Follows, Closes, Left, Stands, Moves, Refuses, deeper}
+use Rattle.tree_reader.specs.declared.part.Coordinates.{Coordinates}
 use Rattle.tree_reader.specs.declared.part.Part.{Part}
 use Rattle.tree_reader.specs.declared.part.Part.TheVariants as part
 use Rattle.tree_reader.specs.declared.scanner.Phase.{Phase}
 use Rattle.tree_reader.specs.declared.scanner.Scanner.{Scanner}
-use Rattle.tree_reader.proofs.BegunLemmas.{Gives}
+use Rattle.tree_reader.proofs.BegunLemmas.{GivesPart}
 
 -- nothing is given
 pub quiet : (i b : ℕ) (p : Phase) (old new : Scanner) → old.phase ≡ p → new.parts ≡ old.parts → new.depth ≡ old.depth → Stands new
@@ -27,7 +28,7 @@ quiet i b p old new was parts depth stands same = record {
 -- a part is given
 pub giving : (i b : ℕ) (bytes : List ℕ) (p : Phase) (g : Part) (old new : Scanner) → old.phase ≡ p → new.parts ≡ old.parts ++ g ∷ [] → Stands new
     → ((parts : List Part) → Follows new.depth parts ↔ Follows old.depth (g ∷ parts))
-    → ((end : ℕ) (more : List ℕ) (parts : List Part) → i + length (b ∷ more) ≡ end → Gives (λ later. Begun new.phase new.held end (bytes ++ more) later) g parts ↔ Begun p old.held end (b ∷ more) parts)
+    → ((end : ℕ) (more : List ℕ) (parts : List Part) → i + length (b ∷ more) ≡ end → GivesPart (λ later. Begun new.phase new.held end (bytes ++ more) later) g parts ↔ Begun p old.held end (b ∷ more) parts)
     → Moves i (b ∷ []) old bytes new
 giving i b bytes p g old new was parts stands follows same = record {
   out = g ∷ [];
@@ -85,34 +86,34 @@ refused_after (Err e) first second = then_stuck e first second
 closes_at : (m n : ℕ) (parts : List Part) → m ≡ n → Closes m parts → Closes n parts
 closes_at m n parts e closes = subst (λ (k : ℕ). Closes k parts) e closes
 
-pub begin_follows : (depth : Option ℕ) (at name_at : ℕ) (name : List ℕ) (parts : List Part) → depth ≢ Some 0 → Follows (Some (deeper depth)) parts ↔ Follows depth (part.Begin at name_at name ∷ parts)
-begin_follows None at name_at name parts some = (on, back)
+pub begin_follows : (depth : Option ℕ) (at name_at : ℕ) (name : List ℕ) (coordinates : Option Coordinates) (parts : List Part) → depth ≢ Some 0 → Follows (Some (deeper depth)) parts ↔ Follows depth (part.Begin at name_at name coordinates ∷ parts)
+begin_follows None at name_at name coordinates parts some = (on, back)
   where
-    on : Closes 1 parts → IsOneNode (part.Begin at name_at name ∷ parts)
-    on (below, end, more, e, closed) = (at, name_at, name, below, end, ap (λ (l : List Part). part.Begin at name_at name ∷ l) (e ∙ ap (λ (l : List Part). parts_of below ++ (part.End end ∷ l)) closed))
+    on : Closes 1 parts → IsOneNode (part.Begin at name_at name coordinates ∷ parts)
+    on (below, end, more, e, closed) = (at, name_at, name, coordinates, below, end, ap (λ (l : List Part). part.Begin at name_at name coordinates ∷ l) (e ∙ ap (λ (l : List Part). parts_of below ++ (part.End end ∷ l)) closed))
 
-    back : IsOneNode (part.Begin at name_at name ∷ parts) → Closes 1 parts
-    back (from, name_from, text, below, end, e) = (below, end, [], (let same : parts ≡ parts_of below ++ (part.End end ∷ []) = cc in same), refl)
-begin_follows (Some zero) at name_at name parts some = absurd (some refl)
-begin_follows (Some (suc depth)) at name_at name parts some = (
+    back : IsOneNode (part.Begin at name_at name coordinates ∷ parts) → Closes 1 parts
+    back (from, name_from, text, others, below, end, e) = (below, end, [], (let same : parts ≡ parts_of below ++ (part.End end ∷ []) = cc in same), refl)
+begin_follows (Some zero) at name_at name coordinates parts some = absurd (some refl)
+begin_follows (Some (suc depth)) at name_at name coordinates parts some = (
   λ closes. on (closes_at (suc depth + 1) (suc (suc depth)) parts (omega arith) closes),
   λ closes. closes_at (suc (suc depth)) (suc depth + 1) parts (omega arith) (back closes),
 )
   where
-    on : Closes (suc (suc depth)) parts → Closes (suc depth) (part.Begin at name_at name ∷ parts)
+    on : Closes (suc (suc depth)) parts → Closes (suc depth) (part.Begin at name_at name coordinates ∷ parts)
     on (below, end, more, e, (after, last, rest, d, closes)) = (
-      node at name_at name below end after,
+      node at name_at name coordinates below end after,
       last,
       rest,
-      ap (λ (l : List Part). part.Begin at name_at name ∷ l) (e ∙ ap (λ (l : List Part). parts_of below ++ (part.End end ∷ l)) d ∙ sym (append_assoc (parts_of below) (part.End end ∷ parts_of after) (part.End last ∷ rest))),
+      ap (λ (l : List Part). part.Begin at name_at name coordinates ∷ l) (e ∙ ap (λ (l : List Part). parts_of below ++ (part.End end ∷ l)) d ∙ sym (append_assoc (parts_of below) (part.End end ∷ parts_of after) (part.End last ∷ rest))),
       closes,
     )
 
-    back : Closes (suc depth) (part.Begin at name_at name ∷ parts) → Closes (suc (suc depth)) parts
+    back : Closes (suc depth) (part.Begin at name_at name coordinates ∷ parts) → Closes (suc (suc depth)) parts
     back (none, last, rest, d, closes) = absurd (cc)
     back (int from z after, last, rest, d, closes) = absurd (cc)
     back (string from text after, last, rest, d, closes) = absurd (cc)
-    back (node from name_from text below end after, last, rest, d, closes) = (
+    back (node from name_from text others below end after, last, rest, d, closes) = (
       below,
       end,
       parts_of after ++ (part.End last ∷ rest),
@@ -130,7 +131,7 @@ int_follows depth at z parts = (on, back)
     back (none, last, rest, d, closes) = absurd (cc)
     back (int from x after, last, rest, d, closes) = (after, last, rest, (let same : parts ≡ parts_of after ++ (part.End last ∷ rest) = cc in same), closes)
     back (string from text after, last, rest, d, closes) = absurd (cc)
-    back (node from name_from text below end after, last, rest, d, closes) = absurd (cc)
+    back (node from name_from text others below end after, last, rest, d, closes) = absurd (cc)
 
 pub text_follows : (depth at : ℕ) (text : List ℕ) (parts : List Part) → Closes (suc depth) parts ↔ Closes (suc depth) (part.Str at text ∷ parts)
 text_follows depth at text parts = (on, back)
@@ -142,7 +143,7 @@ text_follows depth at text parts = (on, back)
     back (none, last, rest, d, closes) = absurd (cc)
     back (int from x after, last, rest, d, closes) = absurd (cc)
     back (string from other after, last, rest, d, closes) = (after, last, rest, (let same : parts ≡ parts_of after ++ (part.End last ∷ rest) = cc in same), closes)
-    back (node from name_from other below end after, last, rest, d, closes) = absurd (cc)
+    back (node from name_from other others below end after, last, rest, d, closes) = absurd (cc)
 
 pub end_follows : (depth at : ℕ) (parts : List Part) → Closes depth parts ↔ Closes (suc depth) (part.End at ∷ parts)
 end_follows depth at parts = (on, back)
@@ -154,4 +155,4 @@ end_follows depth at parts = (on, back)
     back (none, last, rest, d, closes) = subst (λ (l : List Part). Closes depth l) (let same : rest ≡ parts = cc in same) closes
     back (int from x after, last, rest, d, closes) = absurd (cc)
     back (string from other after, last, rest, d, closes) = absurd (cc)
-    back (node from name_from other below end after, last, rest, d, closes) = absurd (cc)
+    back (node from name_from other others below end after, last, rest, d, closes) = absurd (cc)

@@ -1,5 +1,5 @@
 -- A fault tells of one part of a text, so a text and its answer leave one table.
-use Rattle.std.proofs.Common.{◌≡◌, ◌≢◌, ℕ, ◌+◌, ◌<◌, ◌≤◌, List, [], ◌∷◌, ◌++◌, length, Result, Ok, Err, refl, ap, sym, ◌∙◌, subst, arith}
+use Rattle.std.proofs.Common.{◌≡◌, ◌≢◌, ℕ, ◌+◌, ◌<◌, ◌≤◌, Option, List, [], ◌∷◌, ◌++◌, length, Result, Ok, Err, refl, ap, sym, ◌∙◌, subst, arith}
 use Rattle.lido_base.specs.Phases.{IsThe}
 use Rattle.lido_base.specs.declared.kinds.Many.TheVariants as many
 use Rattle.lido_lexer.specs.Bytes.{is_name_byte}
@@ -10,38 +10,40 @@ use Rattle.tree_store.specs.declared.fault.TreeFault.TheVariants as fault
 use Rattle.tree_reader.specs.Language.{IsFront, Spells}
 use Rattle.tree_reader.specs.Scanning.{Scanning}
 use Rattle.tree_reader.specs.WrittenTrees.{most_nodes}
-use Rattle.tree_reader.specs.Tables.{texts_in, place_of, begins, begun, TellsOf, IsTable, IsTableOf}
+use Rattle.tree_reader.specs.Tables.{texts_in, part_place, begins, begun, TellsOf, IsTable, IsTableOf}
+use Rattle.tree_reader.specs.declared.part.Coordinates.{Coordinates}
 use Rattle.tree_reader.specs.declared.part.Part.{Part}
 use Rattle.tree_reader.specs.declared.part.Part.TheVariants as part
-use Rattle.tree_reader.proofs.Shorter.{within, front_shorter}
+use Rattle.tree_reader.proofs.Shorter.{within, coordinates_within, front_shorter}
 
 -- ---- later parts have later places
 
-front_place : (end : ℕ) (bytes : List ℕ) (p : Part) (rest : List ℕ) → IsFront end bytes p rest → place_of p + length bytes ≡ end
-front_place end bytes (part.Begin at name_at name) rest (inner, is, stands, name_stands, named) = stands
+front_place : (end : ℕ) (bytes : List ℕ) (p : Part) (rest : List ℕ) → IsFront end bytes p rest → part_place p + length bytes ≡ end
+front_place end bytes (part.Begin at name_at name coordinates) rest (inner, beyond, is, stands, name_stands, named, has) = stands
 front_place end bytes (part.Int at z) rest (stands, int) = stands
 front_place end bytes (part.Str at text) rest (stands, string) = stands
 front_place end bytes (part.End at) rest (stands, is) = stands
 
 -- the name stands behind the bracket
-name_behind : (end : ℕ) (bytes : List ℕ) (at name_at : ℕ) (name rest : List ℕ) → IsFront end bytes (part.Begin at name_at name) rest → at < name_at
-name_behind end bytes at name_at name rest (inner, is, stands, name_stands, named) = omega (arith, ap length is, within is_white inner, stands, name_stands)
+name_behind : (end : ℕ) (bytes : List ℕ) (at name_at : ℕ) (name : List ℕ) (coordinates : Option Coordinates) (rest : List ℕ) → IsFront end bytes (part.Begin at name_at name coordinates) rest → at < name_at
+name_behind end bytes at name_at name coordinates rest (inner, beyond, is, stands, name_stands, named, has) = omega (arith, ap length is, within is_white inner, stands, name_stands)
 
 -- and what is left, behind the name
-left_behind : (end : ℕ) (bytes : List ℕ) (at name_at : ℕ) (name rest : List ℕ) → IsFront end bytes (part.Begin at name_at name) rest → name_at + length rest ≤ end
-left_behind end bytes at name_at name rest (inner, is, stands, name_stands, named) = omega (arith, ap length named.after, within is_name_byte (behind is_white inner), name_stands)
+left_behind : (end : ℕ) (bytes : List ℕ) (at name_at : ℕ) (name : List ℕ) (coordinates : Option Coordinates) (rest : List ℕ) → IsFront end bytes (part.Begin at name_at name coordinates) rest → name_at + length rest ≤ end
+left_behind end bytes at name_at name coordinates rest (inner, beyond, is, stands, name_stands, named, has) =
+    omega (arith, ap length named.after, within is_name_byte (behind is_white inner), name_stands, coordinates_within beyond coordinates rest has)
 
-later_place : (end : ℕ) (before behind_it : List Part) (q : Part) (bytes : List ℕ) → Spells end (before ++ q ∷ behind_it) bytes → end ≤ place_of q + length bytes
+later_place : (end : ℕ) (before behind_it : List Part) (q : Part) (bytes : List ℕ) → Spells end (before ++ q ∷ behind_it) bytes → end ≤ part_place q + length bytes
 later_place end [] behind_it q bytes (rest, front, more) = omega (arith, front_place end (behind is_white bytes) q rest front, within is_white bytes)
 later_place end (p ∷ before) behind_it q bytes (rest, front, more) =
     omega (arith, later_place end before behind_it q rest more, front_shorter end (behind is_white bytes) p rest front, within is_white bytes)
 
-later_name : (end : ℕ) (before behind_it : List Part) (at name_at : ℕ) (name : List ℕ) (bytes : List ℕ) → Spells end (before ++ part.Begin at name_at name ∷ behind_it) bytes
+later_name : (end : ℕ) (before behind_it : List Part) (at name_at : ℕ) (name : List ℕ) (coordinates : Option Coordinates) (bytes : List ℕ) → Spells end (before ++ part.Begin at name_at name coordinates ∷ behind_it) bytes
     → end < name_at + length bytes
-later_name end [] behind_it at name_at name bytes (rest, front, more) =
-    omega (arith, front_place end (behind is_white bytes) (part.Begin at name_at name) rest front, name_behind end (behind is_white bytes) at name_at name rest front, within is_white bytes)
-later_name end (p ∷ before) behind_it at name_at name bytes (rest, front, more) =
-    omega (arith, later_name end before behind_it at name_at name rest more, front_shorter end (behind is_white bytes) p rest front, within is_white bytes)
+later_name end [] behind_it at name_at name coordinates bytes (rest, front, more) =
+    omega (arith, front_place end (behind is_white bytes) (part.Begin at name_at name coordinates) rest front, name_behind end (behind is_white bytes) at name_at name coordinates rest front, within is_white bytes)
+later_name end (p ∷ before) behind_it at name_at name coordinates bytes (rest, front, more) =
+    omega (arith, later_name end before behind_it at name_at name coordinates rest more, front_shorter end (behind is_white bytes) p rest front, within is_white bytes)
 
 -- ---- a fault tells of one part
 
@@ -54,45 +56,45 @@ record Both (e : TreeFault) (end nodes : ℕ) (bytes : List ℕ) (p : Part) (bet
   pub second : TellsOf e (nodes + (begins p + begun between)) q
 
 -- the names would stand at one place
-named_once : (end : ℕ) (bytes rest : List ℕ) (at name_at : ℕ) (name : List ℕ) (between : List Part) (from name_from : ℕ) (other : List ℕ) (behind_it : List Part)
-    → IsFront end bytes (part.Begin at name_at name) rest → Spells end (between ++ part.Begin from name_from other ∷ behind_it) rest → name_at ≡ name_from → ⊥
-named_once end bytes rest at name_at name between from name_from other behind_it front more same =
-    absurd (omega (arith, left_behind end bytes at name_at name rest front, later_name end between behind_it from name_from other rest more, same))
+named_once : (end : ℕ) (bytes rest : List ℕ) (at name_at : ℕ) (name : List ℕ) (coordinates : Option Coordinates) (between : List Part) (from name_from : ℕ) (other : List ℕ) (others : Option Coordinates) (behind_it : List Part)
+    → IsFront end bytes (part.Begin at name_at name coordinates) rest → Spells end (between ++ part.Begin from name_from other others ∷ behind_it) rest → name_at ≡ name_from → ⊥
+named_once end bytes rest at name_at name coordinates between from name_from other others behind_it front more same =
+    absurd (omega (arith, left_behind end bytes at name_at name coordinates rest front, later_name end between behind_it from name_from other others rest more, same))
 
 placed_once : (place end nodes : ℕ) (bytes : List ℕ) (p : Part) (between : List Part) (q : Part) (behind_it : List Part) → Both (fault.WrongChild place) end nodes bytes p between q behind_it → ⊥
 placed_once place end nodes bytes p between q behind_it both =
-    let one : place ≡ place_of p = both.first in
-    let two : place ≡ place_of q = both.second in
+    let one : place ≡ part_place p = both.first in
+    let two : place ≡ part_place q = both.second in
     absurd (omega (arith, front_place end bytes p both.rest both.front, front_shorter end bytes p both.rest both.front, later_place end between behind_it q both.rest both.more))
 
 not_both : (e : TreeFault) (end nodes : ℕ) (bytes : List ℕ) (p : Part) (between : List Part) (q : Part) (behind_it : List Part) → Both e end nodes bytes p between q behind_it → ⊥
-not_both (fault.UnknownRule place) end nodes bytes (part.Begin at name_at name) between (part.Begin from name_from other) behind_it both =
-    named_once end bytes both.rest at name_at name between from name_from other behind_it both.front both.more (sym both.first ∙ both.second)
-not_both (fault.WrongRoot place) end nodes bytes (part.Begin at name_at name) between (part.Begin from name_from other) behind_it both =
-    named_once end bytes both.rest at name_at name between from name_from other behind_it both.front both.more (sym both.first ∙ both.second)
+not_both (fault.UnknownRule place) end nodes bytes (part.Begin at name_at name coordinates) between (part.Begin from name_from other others) behind_it both =
+    named_once end bytes both.rest at name_at name coordinates between from name_from other others behind_it both.front both.more (sym both.first ∙ both.second)
+not_both (fault.WrongRoot place) end nodes bytes (part.Begin at name_at name coordinates) between (part.Begin from name_from other others) behind_it both =
+    named_once end bytes both.rest at name_at name coordinates between from name_from other others behind_it both.front both.more (sym both.first ∙ both.second)
 not_both (fault.WrongChild place) end nodes bytes p between q behind_it both = placed_once place end nodes bytes p between q behind_it both
-not_both (fault.TooMany many.Nodes) end nodes bytes (part.Begin at name_at name) between (part.Begin from name_from other) behind_it both =
+not_both (fault.TooMany many.Nodes) end nodes bytes (part.Begin at name_at name coordinates) between (part.Begin from name_from other others) behind_it both =
     let one : nodes ≡ most_nodes = both.first in
     let two : nodes + (1 + begun between) ≡ most_nodes = both.second in
     absurd (omega arith)
 not_both (fault.UnknownRule place) end nodes bytes (part.Int at z) between q behind_it both = both.first
 not_both (fault.UnknownRule place) end nodes bytes (part.Str at text) between q behind_it both = both.first
 not_both (fault.UnknownRule place) end nodes bytes (part.End at) between q behind_it both = both.first
-not_both (fault.UnknownRule place) end nodes bytes (part.Begin at name_at name) between (part.Int from w) behind_it both = both.second
-not_both (fault.UnknownRule place) end nodes bytes (part.Begin at name_at name) between (part.Str from text) behind_it both = both.second
-not_both (fault.UnknownRule place) end nodes bytes (part.Begin at name_at name) between (part.End from) behind_it both = both.second
+not_both (fault.UnknownRule place) end nodes bytes (part.Begin at name_at name coordinates) between (part.Int from w) behind_it both = both.second
+not_both (fault.UnknownRule place) end nodes bytes (part.Begin at name_at name coordinates) between (part.Str from text) behind_it both = both.second
+not_both (fault.UnknownRule place) end nodes bytes (part.Begin at name_at name coordinates) between (part.End from) behind_it both = both.second
 not_both (fault.WrongRoot place) end nodes bytes (part.Int at z) between q behind_it both = both.first
 not_both (fault.WrongRoot place) end nodes bytes (part.Str at text) between q behind_it both = both.first
 not_both (fault.WrongRoot place) end nodes bytes (part.End at) between q behind_it both = both.first
-not_both (fault.WrongRoot place) end nodes bytes (part.Begin at name_at name) between (part.Int from w) behind_it both = both.second
-not_both (fault.WrongRoot place) end nodes bytes (part.Begin at name_at name) between (part.Str from text) behind_it both = both.second
-not_both (fault.WrongRoot place) end nodes bytes (part.Begin at name_at name) between (part.End from) behind_it both = both.second
+not_both (fault.WrongRoot place) end nodes bytes (part.Begin at name_at name coordinates) between (part.Int from w) behind_it both = both.second
+not_both (fault.WrongRoot place) end nodes bytes (part.Begin at name_at name coordinates) between (part.Str from text) behind_it both = both.second
+not_both (fault.WrongRoot place) end nodes bytes (part.Begin at name_at name coordinates) between (part.End from) behind_it both = both.second
 not_both (fault.TooMany many.Nodes) end nodes bytes (part.Int at z) between q behind_it both = both.first
 not_both (fault.TooMany many.Nodes) end nodes bytes (part.Str at text) between q behind_it both = both.first
 not_both (fault.TooMany many.Nodes) end nodes bytes (part.End at) between q behind_it both = both.first
-not_both (fault.TooMany many.Nodes) end nodes bytes (part.Begin at name_at name) between (part.Int from w) behind_it both = both.second
-not_both (fault.TooMany many.Nodes) end nodes bytes (part.Begin at name_at name) between (part.Str from text) behind_it both = both.second
-not_both (fault.TooMany many.Nodes) end nodes bytes (part.Begin at name_at name) between (part.End from) behind_it both = both.second
+not_both (fault.TooMany many.Nodes) end nodes bytes (part.Begin at name_at name coordinates) between (part.Int from w) behind_it both = both.second
+not_both (fault.TooMany many.Nodes) end nodes bytes (part.Begin at name_at name coordinates) between (part.Str from text) behind_it both = both.second
+not_both (fault.TooMany many.Nodes) end nodes bytes (part.Begin at name_at name coordinates) between (part.End from) behind_it both = both.second
 not_both (fault.TooMany what) end nodes bytes p between q behind_it both = both.first
 not_both (fault.TreeSyntax place) end nodes bytes p between q behind_it both = both.first
 not_both fault.Memory end nodes bytes p between q behind_it both = both.first

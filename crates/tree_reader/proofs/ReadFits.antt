@@ -21,8 +21,9 @@ use Rattle.flat_grammar.specs.declared.flat.Shape.{Shape}
 use Rattle.flat_grammar.specs.WellFormed.{IsWellFormed, is_same_symbol}
 use Rattle.flat_grammar.specs.Fitting.{IsFitting, IsItem, IsTerminal, HasShape, HasSymbol}
 use Rattle.flat_grammar.specs.Fitting.{node as node_item, int as int_item, string as string_item}
+use Rattle.tree_reader.specs.declared.part.Coordinates.{Coordinates}
 use Rattle.tree_reader.specs.Language.{Forest, none, node, int, string}
-use Rattle.tree_reader.specs.WrittenTrees.{Asked, count, first_of, unless_fault, rule_named, items, fault_among, meaning, most_nodes}
+use Rattle.tree_reader.specs.WrittenTrees.{Asked, count, first_of, unless_fault, rule_named, items, fault_among, meaning, most_nodes, no_coordinates, own}
 use Rattle.tree_reader.specs.Asking.{asked, is_same_type, shape_at, no_shape, may_be, left_of, type_of, may_be_value, may_be_node, may_be_root, has_name}
 use Rattle.tree_reader.specs.Ints.{HasInts}
 use Rattle.tree_reader.proofs.Filling.{length-nodes}
@@ -152,7 +153,7 @@ module _ (symbols : List FlatSymbol) (rules : List FlatRule) (shapes : List Shap
 
   module _ (t : Tree Plain) where
     abbrev IsIt : SymId → Item Plain → Type 0
-    IsIt = IsItem symbols rules shapes root t
+    IsIt = IsItem symbols rules t
 
     -- the children of a node of shape x from child k on
     abbrev AreChildren : ℕ → ℕ → List (Item Plain) → Type 0
@@ -169,10 +170,10 @@ module _ (symbols : List FlatSymbol) (rules : List FlatRule) (shapes : List Shap
       pub children : AreChildren x k (items g n f)
       pub each : (m : ℕ) → n ≤ m → m < n + count f → FitsAt m
 
-    symbol_of : (n y : ℕ) (s : SymId) → rule_at t n ≡ Some (shape_at shapes y).rule.0 → left_of symbols rules shapes root (shape_at shapes y) ≡ Some s → HasSymbol symbols rules shapes root t n s
+    symbol_of : (n y : ℕ) (s : SymId) → rule_at t n ≡ Some (shape_at shapes y).rule.0 → left_of symbols rules shapes root (shape_at shapes y) ≡ Some s → HasSymbol rules t n s
     symbol_of n y s rule left = let (r, there, is) = left_is (slice_get rules (shape_at shapes y).rule.0) s left in (r, ((shape_at shapes y).rule.0, rule, there), is)
 
-    value_before : (x k : ℕ) (ty : ValueType) (item : Item Plain) (more : List (Item Plain)) → ((s : SymId) → IsTerminal symbols rules shapes root t s ty → IsIt s item)
+    value_before : (x k : ℕ) (ty : ValueType) (item : Item Plain) (more : List (Item Plain)) → ((s : SymId) → IsTerminal symbols s ty → IsIt s item)
         → may_be_value symbols rules shapes root (shape_at shapes x) k ty ≡ true → AreChildren x (suc k) more → AreChildren x k (item ∷ more)
     value_before x k ty item more made takes rest =
         let (plain, (s, stands, typed)) = value_slot (shape_at shapes x).list (slice_get (shape_at shapes x).right k) (type_of symbols rules shapes root) ty takes in
@@ -210,7 +211,7 @@ module _ (symbols : List FlatSymbol) (rules : List FlatRule) (shapes : List Shap
           children = value_before x k type.Str (Leaf (Str text)) (items g n after) (λ s terminal. string_item terminal) takes rest.children;
           each = rest.each;
         }
-    among (node at name_at name below end after) x k n close free (rule, its, has_below, has_after) (ints_below, ints_after) =
+    among (node at name_at name coordinates below end after) x k n close free (rule, its, has_below, has_after) (ints_below, ints_after) =
         let is_free = node_free (g.named name) (g.takes x k) (nat_le most_nodes n) (λ y. fault_among g y 0 (suc n) below end) (fault_among g x (suc k) (suc (n + count below)) after close)
         (fault.UnknownRule name_at) (fault.TooMany many.Nodes) (fault.WrongChild at) free in
         let y = is_free.shape in
@@ -241,43 +242,43 @@ module _ (symbols : List FlatSymbol) (rules : List FlatRule) (shapes : List Shap
   rule_inside (n ∷ t) zero r e = omega arith
   rule_inside (n ∷ t) (suc m) r e = omega (arith, rule_inside t m r e)
 
-  root_symbol : (t : Tree Plain) (x : ℕ) → rule_at t 0 ≡ Some (shape_at shapes x).rule.0 → may_be_root symbols rules shapes root (shape_at shapes x) ≡ true → HasSymbol symbols rules shapes root t 0 root
+  root_symbol : (t : Tree Plain) (x : ℕ) → rule_at t 0 ≡ Some (shape_at shapes x).rule.0 → may_be_root symbols rules shapes root (shape_at shapes x) ≡ true → HasSymbol rules t 0 root
   root_symbol t x rule test =
       let (s, left, is) = of_left (left_of symbols rules shapes root (shape_at shapes x)) (λ q. is_same_symbol q root) test in
-      subst (λ (q : SymId). HasSymbol symbols rules shapes root t 0 q) (same_symbol s root is) (symbol_of t 0 x s rule left)
+      subst (λ (q : SymId). HasSymbol rules t 0 q) (same_symbol s root is) (symbol_of t 0 x s rule left)
 
   module _ (formed : IsWellFormed symbols rules shapes root) where
     -- a node's shape is known by its rule
-    the_shape : (t : Tree Plain) (m : ℕ) (shape : Shape) → FitsAt t m → HasShape symbols rules shapes root t m shape → (x : ℕ) × (shape_at shapes x ≡ shape) × AreChildren t x 0 (items_of t m)
+    the_shape : (t : Tree Plain) (m : ℕ) (shape : Shape) → FitsAt t m → HasShape shapes t m shape → (x : ℕ) × (shape_at shapes x ≡ shape) × AreChildren t x 0 (items_of t m)
     the_shape t m shape fits (among_shapes, rule) = (
       fits.shape,
       one_shape _ rules 0 shapes (shape_at shapes fits.shape) shape formed.each_shape (contains_at shapes fits.shape no_shape fits.there) among_shapes (held (sym fits.rule ∙ rule)),
       fits.children,
     )
 
-    plain_children : (t : Tree Plain) (m : ℕ) (shape : Shape) → FitsAt t m → HasShape symbols rules shapes root t m shape → shape.list ≡ false → AllZip (IsIt t) shape.right (items_of t m)
+    plain_children : (t : Tree Plain) (m : ℕ) (shape : Shape) → FitsAt t m → HasShape shapes t m shape → shape.list ≡ false → AllZip (IsIt t) shape.right (items_of t m)
     plain_children t m shape fits has plain =
         let (x, is, children) = the_shape t m shape fits has in
         subst (λ (b : Bool). AreFrom (IsIt t) b shape.right 0 (items_of t m)) plain (subst (λ (s : Shape). AreFrom (IsIt t) s.list s.right 0 (items_of t m)) is children)
 
-    list_children : (t : Tree Plain) (m : ℕ) (shape : Shape) → FitsAt t m → HasShape symbols rules shapes root t m shape → shape.list ≡ true
+    list_children : (t : Tree Plain) (m : ℕ) (shape : Shape) → FitsAt t m → HasShape shapes t m shape → shape.list ≡ true
         → All (λ p. (s : SymId) × Contains shape.right s × IsIt t s p) (items_of t m)
     list_children t m shape fits has list =
         let (x, is, children) = the_shape t m shape fits has in
         subst (λ (b : Bool). AreFrom (IsIt t) b shape.right 0 (items_of t m)) list (subst (λ (s : Shape). AreFrom (IsIt t) s.list s.right 0 (items_of t m)) is children)
 
-    table_fits : (x close : ℕ) (below : Forest) → x < length shapes → may_be_root symbols rules shapes root (shape_at shapes x) ≡ true → fault_among g x 0 1 below close ≡ None → HasInts below
-        → IsFitting symbols rules shapes root (table g (shape_at shapes x).rule.0 below)
-    table_fits x close below there is_root free ints =
-        let t : Tree Plain = table g (shape_at shapes x).rule.0 below in
-        let fits = among t below x 0 1 close free (table_has_nodes g (shape_at shapes x).rule.0 below) ints in
+    table_fits : (x close : ℕ) (c : Coordinates) (below : Forest) → x < length shapes → may_be_root symbols rules shapes root (shape_at shapes x) ≡ true → fault_among g x 0 1 below close ≡ None → HasInts below
+        → IsFitting symbols rules shapes root (table g (shape_at shapes x).rule.0 c below)
+    table_fits x close c below there is_root free ints =
+        let t : Tree Plain = table g (shape_at shapes x).rule.0 c below in
+        let fits = among t below x 0 1 close free (table_has_nodes g (shape_at shapes x).rule.0 c below) ints in
         let first : FitsAt t 0 = record { shape = x; there = there; rule = refl; children = fits.children } in
         let each : (m : ℕ) → m < length t → FitsAt t m = λ m less. ⊎_elim
         (λ low. subst (FitsAt t) (let e : 0 ≡ m = omega (arith, low) in e) first)
-        (λ past. fits.each m past (omega (arith, less, length-nodes g 1 0 0 below)))
+        (λ past. fits.each m past (omega (arith, less, length-nodes g 1 0 0 c below)))
         (cases_lt m 1) in
         record {
-          tree = table_is_tree g (shape_at shapes x).rule.0 below;
+          tree = table_is_tree g (shape_at shapes x).rule.0 c below;
           root_node = root_symbol t x refl is_root;
           shaped = λ m less. let here = each m less in (shape_at shapes here.shape, (contains_at shapes here.shape no_shape here.there, here.rule));
           plain = λ m shape has plain. plain_children t m shape (each m (rule_inside t m shape.rule.0 has.1)) has plain;
@@ -285,8 +286,8 @@ module _ (symbols : List FlatSymbol) (rules : List FlatRule) (shapes : List Shap
         }
 
     -- a tree that a text means fits the grammar
-    pub read_fits : (name_at : ℕ) (name : List ℕ) (below : Forest) (end : ℕ) (t : Tree Plain) → HasInts below → meaning g name_at name below end ≡ Ok t → IsFitting symbols rules shapes root t
-    read_fits name_at name below end t ints means =
-        let r = read_from (g.named name) g.is_root (λ x. table g (g.rule x) below) (λ x. fault_among g x 0 1 below end) t (fault.UnknownRule name_at) (fault.WrongRoot name_at) means in
+    pub read_fits : (name_at : ℕ) (name : List ℕ) (coordinates : Option Coordinates) (below : Forest) (end : ℕ) (t : Tree Plain) → HasInts below → meaning g name_at name coordinates below end ≡ Ok t → IsFitting symbols rules shapes root t
+    read_fits name_at name coordinates below end t ints means =
+        let r = read_from (g.named name) g.is_root (λ x. table g (g.rule x) (own coordinates no_coordinates) below) (λ x. fault_among g x 0 1 below end) t (fault.UnknownRule name_at) (fault.WrongRoot name_at) means in
         subst (IsFitting symbols rules shapes root) r.is
-        (table_fits r.shape end below (shape_inside t name r.shape r.named) r.is_root r.free ints)
+        (table_fits r.shape end (own coordinates no_coordinates) below (shape_inside t name r.shape r.named) r.is_root r.free ints)

@@ -11,7 +11,8 @@ use Rattle.lido_lexer.proofs.Lists.{head_of, tail_of, no_bytes}
 use Rattle.tree_store.specs.declared.fault.TreeFault.{TreeFault}
 use Rattle.tree_store.specs.declared.fault.TreeFault.TheVariants as fault
 use Rattle.tree_reader.specs.Language.{none, node, int, string, IsFront, Spells, IsOneNode, IsTreeOf, IsTreeText}
-use Rattle.tree_reader.specs.Scanning.{Scanning, Begun, Follows, Closes, Left, Moves, IsStuck, Refuses, HasScanned, is_done}
+use Rattle.tree_reader.specs.Scanning.{Scanning, Begun, BeginsNode, Follows, Closes, Left, Moves, IsStuck, Refuses, HasScanned, is_done}
+use Rattle.tree_reader.specs.declared.part.Coordinates.{Coordinates}
 use Rattle.tree_reader.specs.declared.part.Part.{Part}
 use Rattle.tree_reader.specs.declared.part.Part.TheVariants as part
 use Rattle.tree_reader.specs.declared.scanner.Phase.{Phase}
@@ -80,12 +81,12 @@ done_only text s scanned (gap, closed) others tree =
 
 closes_none : (depth : ℕ) → Closes (suc depth) [] → ⊥
 closes_none depth (none, at, more, e, closes) = cc
-closes_none depth (node at name_at name below end after, last, more, e, closes) = cc
+closes_none depth (node at name_at name coordinates below end after, last, more, e, closes) = cc
 closes_none depth (int at z after, last, more, e, closes) = cc
 closes_none depth (string at text after, last, more, e, closes) = cc
 
 no_front : (end : ℕ) (p : Part) (rest : List ℕ) → IsFront end [] p rest → ⊥
-no_front end (part.Begin at name_at name) rest (inner, e, stands, name_stands, named) = no_bytes e
+no_front end (part.Begin at name_at name coordinates) rest (inner, beyond, e, stands, name_stands, named, has) = no_bytes e
 no_front end (part.Int at z) rest (stands, is) = omega (arith, is.some)
 no_front end (part.Str at text) rest (stands, is) = no_bytes is.opened
 no_front end (part.End at) rest (stands, e) = no_bytes e
@@ -95,16 +96,16 @@ spelled_nothing end [] spells = refl
 spelled_nothing end (p ∷ parts) (rest, front, more) = absurd (no_front end p rest front)
 
 no_node : (p : Part) → IsOneNode (p ∷ []) → ⊥
-no_node p (at, name_at, name, none, end, e) = cc
-no_node p (at, name_at, name, node from name_from text below last after, end, e) = cc
-no_node p (at, name_at, name, int from z after, end, e) = cc
-no_node p (at, name_at, name, string from text after, end, e) = cc
+no_node p (at, name_at, name, coordinates, none, end, e) = cc
+no_node p (at, name_at, name, coordinates, node from name_from text others below last after, end, e) = cc
+no_node p (at, name_at, name, coordinates, int from z after, end, e) = cc
+no_node p (at, name_at, name, coordinates, string from text after, end, e) = cc
 
-one_begun : (depth : Option ℕ) (at name_at : ℕ) (name : List ℕ) → Follows depth (part.Begin at name_at name ∷ []) → ⊥
-one_begun None at name_at name follows = no_node (part.Begin at name_at name) follows
-one_begun (Some zero) at name_at name follows = cc
-one_begun (Some (suc d)) at name_at name follows =
-    let closes = (begin_follows (Some (suc d)) at name_at name [] (λ e. absurd (let n : suc d ≡ 0 = cc in omega (arith, n)))).1 follows in
+one_begun : (depth : Option ℕ) (at name_at : ℕ) (name : List ℕ) (c : Option Coordinates) → Follows depth (part.Begin at name_at name c ∷ []) → ⊥
+one_begun None at name_at name c follows = no_node (part.Begin at name_at name c) follows
+one_begun (Some zero) at name_at name c follows = cc
+one_begun (Some (suc d)) at name_at name c follows =
+    let closes = (begin_follows (Some (suc d)) at name_at name c [] (λ e. absurd (let n : suc d ≡ 0 = cc in omega (arith, n)))).1 follows in
     closes_none (suc d) (subst (λ (n : ℕ). Closes n []) (let e : suc d + 1 ≡ suc (suc d) = omega arith in e) closes)
 
 one_int : (depth : Option ℕ) (at : ℕ) (z : ℤ) → Follows depth (part.Int at z ∷ []) → ⊥
@@ -130,13 +131,24 @@ drop_nothing : (n : ℕ) → drop {A = ℕ} n [] ≡ []
 drop_nothing zero = refl
 drop_nothing (suc n) = refl
 
+-- a text that ends behind a name
+nothing_named : (at name_at : ℕ) (name : List ℕ) (depth : Option ℕ) (end : ℕ) (parts : List Part) → BeginsNode at name_at name end [] parts → Follows depth parts → ⊥
+nothing_named at name_at name depth end parts (None, rest, later, e, is, spells) follows =
+    one_begun depth at name_at name None (subst (λ (l : List Part). Follows depth l)
+    (e ∙ ap (λ (l : List Part). part.Begin at name_at name None ∷ l) (spelled_nothing end later (subst (λ (l : List ℕ). Spells end later l) is spells))) follows)
+nothing_named at name_at name depth end parts (Some c, rest, later, e, (digits, more, is, line, column), spells) follows = no_bytes is
+
 unfinished : (p : Phase) (held : List ℕ) (depth : Option ℕ) (end : ℕ) (parts : List Part) → is_done p depth ≡ false → Begun p held end [] parts → Follows depth parts → ⊥
-unfinished phase.Gap held None end parts other spells (at, name_at, name, below, last, e) = absurd (let none_is = spelled_nothing end parts spells in cc)
+unfinished phase.Gap held None end parts other spells (at, name_at, name, coordinates, below, last, e) = absurd (let none_is = spelled_nothing end parts spells in cc)
 unfinished phase.Gap held (Some zero) end parts other spells follows = true≢false other
 unfinished phase.Gap held (Some (suc d)) end parts other spells follows = closes_none d (subst (λ (l : List Part). Closes (suc d) l) (spelled_nothing end parts spells) follows)
-unfinished (phase.Opened at) held depth end parts other (name_at, name, rest, later, e, stands, named, spells) follows = true≢false (sym named.begins)
-unfinished (phase.Name at name_at) held depth end parts other (later, e, spells) follows =
-    one_begun depth at name_at (held ++ []) (subst (λ (l : List Part). Follows depth l) (e ∙ ap (λ (l : List Part). part.Begin at name_at (held ++ []) ∷ l) (spelled_nothing end later spells)) follows)
+unfinished (phase.Opened at) held depth end parts other (name_at, name, rest, stands, named, begun) follows = true≢false (sym named.begins)
+unfinished (phase.Name at name_at) held depth end parts other begun follows = nothing_named at name_at (held ++ []) depth end parts begun follows
+unfinished (phase.Named at name_at) held depth end parts other begun follows = nothing_named at name_at held depth end parts begun follows
+unfinished (phase.Line at name_at count value) held depth end parts other (c, digits, rest, later, e, line, column, spells) follows = no_bytes (sym line.after)
+unfinished (phase.Column at name_at line count value) held depth end parts other (column, rest, later, e, number, spells) follows =
+    one_begun depth at name_at held (Some (record { line = line; column = column })) (subst (λ (l : List Part). Follows depth l)
+    (e ∙ ap (λ (l : List Part). part.Begin at name_at held (Some (record { line = line; column = column })) ∷ l) (spelled_nothing end later (subst (λ (l : List ℕ). Spells end later l) number.after spells))) follows)
 unfinished (phase.Minus at) held depth end parts other (z, later, e, some, value, fits, spells) follows = omega (arith, some)
 unfinished (phase.Digits at negative value) held depth end parts other (z, later, e, says, fits, spells) follows =
     one_int depth at z (subst (λ (l : List Part). Follows depth l) (e ∙ ap (λ (l : List Part). part.Int at z ∷ l) (spelled_nothing end later spells)) follows)
@@ -159,6 +171,9 @@ done_is phase.Gap (Some zero) test = (refl, refl)
 done_is phase.Gap (Some (suc d)) test = absurd (true≢false (sym test))
 done_is (phase.Opened at) depth test = absurd (true≢false (sym test))
 done_is (phase.Name at name_at) depth test = absurd (true≢false (sym test))
+done_is (phase.Named at name_at) depth test = absurd (true≢false (sym test))
+done_is (phase.Line at name_at count value) depth test = absurd (true≢false (sym test))
+done_is (phase.Column at name_at line count value) depth test = absurd (true≢false (sym test))
 done_is (phase.Minus at) depth test = absurd (true≢false (sym test))
 done_is (phase.Digits at negative value) depth test = absurd (true≢false (sym test))
 done_is (phase.Text at) depth test = absurd (true≢false (sym test))

@@ -1,12 +1,13 @@
 -- There are no more parts than bytes.
-use Rattle.std.proofs.Common.{◌≡◌, ℕ, ◌<◌, ◌≤◌, Bool, true, false, List, [], ◌∷◌, drop, length, ap, arith, if◌then◌else◌, length-drop, refl, Ok}
+use Rattle.std.proofs.Common.{◌≡◌, ℕ, ◌<◌, ◌≤◌, Bool, true, false, List, [], ◌∷◌, drop, length, ap, arith, if◌then◌else◌, length-drop, refl, Ok, Option, Some, None}
 use Rattle.std.specs.List.{take_while, prefix_len}
 use Rattle.lido_lexer.specs.Bytes.{is_name_byte, octal_front}
 use Rattle.lido_lexer.specs.Tokens.{IsQuoted, IsPart, plain, escape, octal}
 use Rattle.sum_trees.specs.Bytes.{is_white, is_digit, is_minus, first_is, behind, unsigned}
 use Rattle.sum_trees.proofs.FrontsOfBytes.{behind_skip, taken_none}
 use Rattle.lido_base.specs.Phases.{IsThe}
-use Rattle.tree_reader.specs.Language.{IsFront, Spells}
+use Rattle.tree_reader.specs.Language.{IsFront, HasCoordinates, Spells}
+use Rattle.tree_reader.specs.declared.part.Coordinates.{Coordinates}
 use Rattle.tree_reader.specs.Scanning.{Scanning}
 use Rattle.tree_reader.specs.declared.part.Part.{Part}
 use Rattle.tree_reader.specs.declared.part.Part.TheVariants as part
@@ -38,9 +39,14 @@ quoted_within : (bytes text rest : List ℕ) → IsQuoted bytes text rest → le
 quoted_within bytes [] rest is = omega (arith, ap length is)
 quoted_within bytes (b ∷ text) rest (inner, first, more) = omega (arith, part_within bytes b inner first, quoted_within inner text rest more)
 
+pub coordinates_within : (bytes : List ℕ) (coordinates : Option Coordinates) (rest : List ℕ) → HasCoordinates bytes coordinates rest → length rest ≤ length bytes
+coordinates_within bytes None rest is = omega (arith, ap length is)
+coordinates_within bytes (Some c) rest (digits, more, is, line, column) =
+    omega (arith, ap length is, ap length line.after, ap length column.after, within is_digit digits, within is_digit more, within is_white bytes)
+
 pub front_shorter : (end : ℕ) (bytes : List ℕ) (p : Part) (rest : List ℕ) → IsFront end bytes p rest → length rest < length bytes
-front_shorter end bytes (part.Begin at name_at name) rest (inner, is, stands, name_stands, named) =
-    omega (arith, ap length is, ap length named.after, within is_white inner, within is_name_byte (behind is_white inner))
+front_shorter end bytes (part.Begin at name_at name coordinates) rest (inner, beyond, is, stands, name_stands, named, has) =
+    omega (arith, ap length is, ap length named.after, within is_white inner, within is_name_byte (behind is_white inner), coordinates_within beyond coordinates rest has)
 front_shorter end bytes (part.Int at z) rest (stands, int) = omega (arith, ap length int.after, shorter is_digit (unsigned bytes) int.some, unsigned_within (first_is is_minus bytes) bytes)
 front_shorter end bytes (part.Str at text) rest (stands, string) = omega (arith, ap length string.opened, quoted_within string.inner text rest string.parts)
 front_shorter end bytes (part.End at) rest (stands, is) = omega (arith, ap length is)

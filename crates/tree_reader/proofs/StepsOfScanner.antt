@@ -9,7 +9,7 @@ use Rattle.lido_lexer.specs.Bytes.{is_octal, is_plain}
 use Rattle.lido_lexer.specs.Tokens.{escaped}
 use Rattle.sum_trees.specs.Bytes.{is_white, is_digit, is_letter, is_name_byte}
 use Rattle.tree_reader.specs.Language.{Spells}
-use Rattle.tree_reader.specs.Scanning.{Begun, Follows, Closes, Stands, CanStand, Moves, IsStuck, signed, deeper}
+use Rattle.tree_reader.specs.Scanning.{Begun, Follows, Closes, Stands, CanStand, Moves, IsStuck, IsDigitOn, IsBegunNumber, signed, deeper}
 use Rattle.tree_reader.specs.declared.part.Part.TheVariants as part
 use Rattle.tree_reader.specs.declared.scanner.Phase.{Phase}
 use Rattle.tree_reader.specs.declared.scanner.Phase.TheVariants as phase
@@ -17,6 +17,7 @@ use Rattle.tree_reader.specs.declared.scanner.Scanner.{Scanner}
 use Rattle.sum_trees.proofs.FrontsOfBytes.{taken_none}
 use Rattle.tree_reader.proofs.BegunLemmas.{white_goes, open_goes, minus_goes, digit_goes, quote_goes, close_goes, nothing_starts, nothing_left, no_first}
 use Rattle.tree_reader.proofs.BegunMore.{opened_white, opened_letter, name_more, name_ends, minus_digit, digits_more, digits_too_many, digits_end, text_ends, text_slash, text_plain, text_stuck, escape_goes, octal_goes, octal_more, octal_too_large, octal_ends}
+use Rattle.tree_reader.proofs.CoordinatesLemmas.{named_white, named_at, named_ends, line_more, line_too_much, line_colon, line_stuck, column_more, column_too_much, column_ends, column_stuck}
 use Rattle.tree_reader.proofs.MovesLemmas.{quiet, giving, again, begin_follows, int_follows, text_follows, end_follows}
 
 pub ok_then : {X E A B : Type 0} (r : Result X E) → (A → B) → OnOk r A → OnOk r B
@@ -122,14 +123,94 @@ name_on i b at name_at old new was stands passes e =
     (λ end more parts place. name_more end at name_at b old.held more parts passes))
 
 pub name_whole : (i b at name_at : ℕ) (old new : Scanner) → old.phase ≡ phase.Name at name_at → Stands old → is_name_byte b ≡ false
-    → new ≡ record { parts = old.parts ++ part.Begin at name_at old.held ∷ []; phase = phase.Gap; held = []; depth = Some (deeper old.depth) } → Moves i (b ∷ []) old (b ∷ []) new
+    → new ≡ record old { phase = phase.Named at name_at } → Moves i (b ∷ []) old (b ∷ []) new
 name_whole i b at name_at old new was stands fails e =
-    let some = stands_at old (phase.Name at name_at) was stands in
     subst (λ (s : Scanner). Moves i (b ∷ []) old (b ∷ []) s) (sym e)
-    (giving i b (b ∷ []) (phase.Name at name_at) (part.Begin at name_at old.held) old
-    (record { parts = old.parts ++ part.Begin at name_at old.held ∷ []; phase = phase.Gap; held = []; depth = Some (deeper old.depth) }) was refl refl
-    (λ parts. begin_follows old.depth at name_at old.held parts some)
-    (λ end more parts place. name_ends end at name_at b old.held more parts fails))
+    (again i b (phase.Name at name_at) old (record old { phase = phase.Named at name_at }) was refl refl (stands_at old (phase.Name at name_at) was stands)
+    (λ end more parts. name_ends end at name_at b old.held more parts fails))
+
+-- ---- behind a name
+
+pub named_gap : (i b at name_at : ℕ) (s : Scanner) → s.phase ≡ phase.Named at name_at → Stands s → is_white b ≡ true → Moves i (b ∷ []) s [] s
+named_gap i b at name_at s was stands white =
+    quiet i b (phase.Named at name_at) s s was refl refl stands
+    (λ end more parts place. subst (λ (q : Phase). Begun q s.held end more parts ↔ Begun (phase.Named at name_at) s.held end (b ∷ more) parts) (sym was) (named_white end at name_at b s.held more parts white))
+
+pub named_line : (i b at name_at : ℕ) (old new : Scanner) → old.phase ≡ phase.Named at name_at → Stands old → b ≡ 64
+    → new ≡ record old { phase = phase.Line at name_at 0 0 } → Moves i (b ∷ []) old [] new
+named_line i b at name_at old new was stands is e = subst (λ (s : Scanner). Moves i (b ∷ []) old [] s) (sym e)
+    (subst (λ (x : ℕ). Moves i (x ∷ []) old [] (record old { phase = phase.Line at name_at 0 0 })) (sym is)
+    (quiet i 64 (phase.Named at name_at) old (record old { phase = phase.Line at name_at 0 0 }) was refl refl
+    (stands_at old (phase.Named at name_at) was stands, record { few = omega arith; fits = omega arith; none = λ none. refl })
+    (λ end more parts place. named_at end at name_at old.held more parts)))
+
+pub named_whole : (i b at name_at : ℕ) (old new : Scanner) → old.phase ≡ phase.Named at name_at → Stands old → is_white b ≡ false → b ≢ 64
+    → new ≡ record { parts = old.parts ++ part.Begin at name_at old.held None ∷ []; phase = phase.Gap; held = []; depth = Some (deeper old.depth) } → Moves i (b ∷ []) old (b ∷ []) new
+named_whole i b at name_at old new was stands white other e =
+    let some = stands_at old (phase.Named at name_at) was stands in
+    subst (λ (s : Scanner). Moves i (b ∷ []) old (b ∷ []) s) (sym e)
+    (giving i b (b ∷ []) (phase.Named at name_at) (part.Begin at name_at old.held None) old
+    (record { parts = old.parts ++ part.Begin at name_at old.held None ∷ []; phase = phase.Gap; held = []; depth = Some (deeper old.depth) }) was refl refl
+    (λ parts. begin_follows old.depth at name_at old.held None parts some)
+    (λ end more parts place. named_ends end at name_at b old.held more parts white other))
+
+-- ---- in coordinates
+
+more_begun : (count value b : ℕ) → IsDigitOn count value b → IsBegunNumber (count + 1) (value * 10 + (b - 48))
+more_begun count value b (few, fits) = record { few = omega arith; fits = fits; none = λ none. absurd (omega (arith, none)) }
+
+pub line_on : (i b at name_at count value next : ℕ) (old new : Scanner) → old.phase ≡ phase.Line at name_at count value → Stands old → is_digit b ≡ true
+    → next ≡ value * 10 + (b - 48) → IsDigitOn count value b → new ≡ record old { phase = phase.Line at name_at (count + 1) next } → Moves i (b ∷ []) old [] new
+line_on i b at name_at count value next old new was stands digit is more e =
+    let (some, begun) = stands_at old (phase.Line at name_at count value) was stands in
+    subst (λ (s : Scanner). Moves i (b ∷ []) old [] s) (sym e)
+    (subst (λ (v : ℕ). Moves i (b ∷ []) old [] (record old { phase = phase.Line at name_at (count + 1) v })) (sym is)
+    (quiet i b (phase.Line at name_at count value) old (record old { phase = phase.Line at name_at (count + 1) (value * 10 + (b - 48)) }) was refl refl (some, more_begun count value b more)
+    (λ end more parts place. line_more end at name_at count value b old.held more parts digit)))
+
+pub line_no_more : (i b at name_at count value : ℕ) (s : Scanner) → s.phase ≡ phase.Line at name_at count value → is_digit b ≡ true → (IsDigitOn count value b → ⊥) → IsStuck i b s
+line_no_more i b at name_at count value s was digit large more parts left =
+    line_too_much (i + length (b ∷ more)) at name_at count value b s.held more parts digit large (subst (λ (q : Phase). Begun q s.held (i + length (b ∷ more)) (b ∷ more) parts) was left.0)
+
+pub line_whole : (i b at name_at count value : ℕ) (old new : Scanner) → old.phase ≡ phase.Line at name_at count value → Stands old → b ≡ 58 → 0 < count
+    → new ≡ record old { phase = phase.Column at name_at value 0 0 } → Moves i (b ∷ []) old [] new
+line_whole i b at name_at count value old new was stands is any e =
+    let (some, begun) = stands_at old (phase.Line at name_at count value) was stands in
+    subst (λ (s : Scanner). Moves i (b ∷ []) old [] s) (sym e)
+    (subst (λ (x : ℕ). Moves i (x ∷ []) old [] (record old { phase = phase.Column at name_at value 0 0 })) (sym is)
+    (quiet i 58 (phase.Line at name_at count value) old (record old { phase = phase.Column at name_at value 0 0 }) was refl refl (some, record { few = omega arith; fits = omega arith; none = λ none. refl })
+    (λ end more parts place. line_colon end at name_at count value old.held more parts any begun)))
+
+pub line_nowhere : (i b at name_at count value : ℕ) (s : Scanner) → s.phase ≡ phase.Line at name_at count value → is_digit b ≡ false → (count ≡ 0) ⊎ (b ≢ 58) → IsStuck i b s
+line_nowhere i b at name_at count value s was other wrong more parts left =
+    line_stuck (i + length (b ∷ more)) at name_at count value b s.held more parts other wrong (subst (λ (q : Phase). Begun q s.held (i + length (b ∷ more)) (b ∷ more) parts) was left.0)
+
+pub column_on : (i b at name_at line count value next : ℕ) (old new : Scanner) → old.phase ≡ phase.Column at name_at line count value → Stands old → is_digit b ≡ true
+    → next ≡ value * 10 + (b - 48) → IsDigitOn count value b → new ≡ record old { phase = phase.Column at name_at line (count + 1) next } → Moves i (b ∷ []) old [] new
+column_on i b at name_at line count value next old new was stands digit is more e =
+    let (some, begun) = stands_at old (phase.Column at name_at line count value) was stands in
+    subst (λ (s : Scanner). Moves i (b ∷ []) old [] s) (sym e)
+    (subst (λ (v : ℕ). Moves i (b ∷ []) old [] (record old { phase = phase.Column at name_at line (count + 1) v })) (sym is)
+    (quiet i b (phase.Column at name_at line count value) old (record old { phase = phase.Column at name_at line (count + 1) (value * 10 + (b - 48)) }) was refl refl (some, more_begun count value b more)
+    (λ end more parts place. column_more end at name_at line count value b old.held more parts digit)))
+
+pub column_no_more : (i b at name_at line count value : ℕ) (s : Scanner) → s.phase ≡ phase.Column at name_at line count value → is_digit b ≡ true → (IsDigitOn count value b → ⊥) → IsStuck i b s
+column_no_more i b at name_at line count value s was digit large more parts left =
+    column_too_much (i + length (b ∷ more)) at name_at line count value b s.held more parts digit large (subst (λ (q : Phase). Begun q s.held (i + length (b ∷ more)) (b ∷ more) parts) was left.0)
+
+pub column_whole : (i b at name_at line count value : ℕ) (old new : Scanner) → old.phase ≡ phase.Column at name_at line count value → Stands old → is_digit b ≡ false → 0 < count
+    → new ≡ record { parts = old.parts ++ part.Begin at name_at old.held (Some (record { line = line; column = value })) ∷ []; phase = phase.Gap; held = []; depth = Some (deeper old.depth) } → Moves i (b ∷ []) old (b ∷ []) new
+column_whole i b at name_at line count value old new was stands other any e =
+    let (some, begun) = stands_at old (phase.Column at name_at line count value) was stands in
+    subst (λ (s : Scanner). Moves i (b ∷ []) old (b ∷ []) s) (sym e)
+    (giving i b (b ∷ []) (phase.Column at name_at line count value) (part.Begin at name_at old.held (Some (record { line = line; column = value }))) old
+    (record { parts = old.parts ++ part.Begin at name_at old.held (Some (record { line = line; column = value })) ∷ []; phase = phase.Gap; held = []; depth = Some (deeper old.depth) }) was refl refl
+    (λ parts. begin_follows old.depth at name_at old.held (Some (record { line = line; column = value })) parts some)
+    (λ end more parts place. column_ends end at name_at line count value b old.held more parts other any begun))
+
+pub column_nowhere : (i b at name_at line count value : ℕ) (s : Scanner) → s.phase ≡ phase.Column at name_at line count value → is_digit b ≡ false → count ≡ 0 → IsStuck i b s
+column_nowhere i b at name_at line count value s was other none more parts left =
+    column_stuck (i + length (b ∷ more)) at name_at line count value b s.held more parts other none (subst (λ (q : Phase). Begun q s.held (i + length (b ∷ more)) (b ∷ more) parts) was left.0)
 
 -- ---- in a number
 

@@ -1,5 +1,5 @@
 -- The table of texts while parts are read, one after the other.
-use Rattle.std.proofs.Common.{◌≡◌, ◌⊎◌, inl, inr, ℕ, zero, suc, ◌+◌, ◌<◌, ◌≤◌, List, [], ◌∷◌, ◌++◌, length, take, drop, get_or, Result, Ok, Err, refl, ap, sym, ◌∙◌, subst, arith, append_assoc, append-nil}
+use Rattle.std.proofs.Common.{◌≡◌, ◌⊎◌, inl, inr, ℕ, zero, suc, ◌+◌, ◌<◌, ◌≤◌, Option, List, [], ◌∷◌, ◌++◌, length, take, drop, get_or, Result, Ok, Err, refl, ap, sym, ◌∙◌, subst, arith, append_assoc, append-nil}
 use Rattle.std.specs.Prelude.{IfErr}
 use Rattle.lido_base.specs.Phases.{IsThe}
 use Rattle.lido_base.specs.Tree.{Tree}
@@ -14,8 +14,9 @@ use Rattle.flat_grammar.specs.declared.flat.FlatRule.{FlatRule}
 use Rattle.flat_grammar.specs.declared.flat.Shape.{Shape}
 use Rattle.tree_reader.specs.Language.{Forest, none, parts_of}
 use Rattle.tree_reader.specs.Scanning.{Scanning}
-use Rattle.tree_reader.specs.Writing.{IsFirst}
-use Rattle.tree_reader.specs.Tables.{text_of, texts_in, place_of, begins, begun, TellsOf, IsRead, IsTable, IsTableOf}
+use Rattle.tree_reader.specs.Writing.{IsFirstPart}
+use Rattle.tree_reader.specs.Tables.{text_of, texts_in, part_place, begins, begun, TellsOf, IsRead, IsTable, IsTableOf}
+use Rattle.tree_reader.specs.declared.part.Coordinates.{Coordinates}
 use Rattle.tree_reader.specs.declared.part.Part.{Part}
 use Rattle.tree_reader.specs.declared.part.Part.TheVariants as part
 
@@ -32,13 +33,13 @@ err_read texts later nodes fails p q e told =
     subst (λ (x : Part). (fails ≡ fault.Memory) ⊎ (TellsOf fails nodes x × (later ≡ interned texts (text_of x)))) (sym e) told
 
 -- the fault is at the part's place
-pub told_at : (texts : List (List ℕ)) (later : List (List ℕ)) (nodes at : ℕ) (e : TreeFault) (p : Part) → place_of p ≡ at → later ≡ interned texts (text_of p)
+pub told_at : (texts : List (List ℕ)) (later : List (List ℕ)) (nodes at : ℕ) (e : TreeFault) (p : Part) → part_place p ≡ at → later ≡ interned texts (text_of p)
     → (e ≡ fault.Memory) ⊎ (e ≡ fault.WrongChild at) → (e ≡ fault.Memory) ⊎ (TellsOf e nodes p × (later ≡ interned texts (text_of p)))
 told_at texts later nodes at e p place is (inl memory) = inl memory
 told_at texts later nodes at e p place is (inr told) = inr (subst (λ (f : TreeFault). TellsOf f nodes p) (sym told) (sym place), is)
 
 -- the part is read, whatever comes of it
-pub read_at : {A : Type 0} (texts : List (List ℕ)) (later : List (List ℕ)) (nodes at : ℕ) (p : Part) (r : Result A TreeFault) → place_of p ≡ at → later ≡ interned texts (text_of p)
+pub read_at : {A : Type 0} (texts : List (List ℕ)) (later : List (List ℕ)) (nodes at : ℕ) (p : Part) (r : Result A TreeFault) → part_place p ≡ at → later ≡ interned texts (text_of p)
     → IfErr r (λ e. (e ≡ fault.Memory) ⊎ (e ≡ fault.WrongChild at)) → IsRead texts nodes p r later
 read_at texts later nodes at p (Ok x) place is told = is
 read_at texts later nodes at p (Err e) place is told = told_at texts later nodes at e p place is told
@@ -68,8 +69,8 @@ table_more texts old later parts p before one =
 
 -- ---- how far the loop is: the first part, and so many behind it
 
-pub first_of_all : (parts : List Part) (name_at : ℕ) (name : List ℕ) (rest : List Part) → IsFirst parts name_at name rest → (at : ℕ) × (parts ≡ part.Begin at name_at name ∷ rest)
-first_of_all parts name_at name rest (at, below, end, is, behind) = (at, is ∙ ap (λ (l : List Part). part.Begin at name_at name ∷ l) (sym behind))
+pub first_of_all : (parts : List Part) (name_at : ℕ) (name : List ℕ) (coordinates : Option Coordinates) (rest : List Part) → IsFirstPart parts name_at name coordinates rest → (at : ℕ) × (parts ≡ part.Begin at name_at name coordinates ∷ rest)
+first_of_all parts name_at name coordinates rest (at, below, end, is, behind) = (at, is ∙ ap (λ (l : List Part). part.Begin at name_at name coordinates ∷ l) (sym behind))
 
 taken_more : (i : ℕ) (xs : List Part) (p : Part) → i < length xs → p ≡ get_or xs i p → take (suc i) xs ≡ take i xs ++ p ∷ []
 taken_more i [] p less is = absurd (omega arith)
@@ -93,22 +94,22 @@ pub record SoFar (texts : List (List ℕ)) (parts : List Part) (read : ℕ) (nod
   pub nodes_are : nodes ≡ begun (take read parts)
   pub few : length later ≤ length texts + read
 
-module _ (texts : List (List ℕ)) (parts rest : List Part) (name_at : ℕ) (name : List ℕ) (first : IsFirst parts name_at name rest) where
+module _ (texts : List (List ℕ)) (parts rest : List Part) (name_at : ℕ) (name : List ℕ) (coordinates : Option Coordinates) (first : IsFirstPart parts name_at name coordinates rest) where
   -- the first part
   pub one_read : (later : List (List ℕ)) (nodes : ℕ) → nodes ≡ 1 → length later ≤ length texts + 1 → later ≡ interned texts (name ∷ []) → SoFar texts parts (0 + 1) nodes later
-  one_read later nodes one few table = let (at, is) = first_of_all parts name_at name rest first in
+  one_read later nodes one few table = let (at, is) = first_of_all parts name_at name coordinates rest first in
       subst (λ (l : List Part). SoFar texts l 1 nodes later) (sym is) (record { table = table; nodes_are = omega arith; few = few })
 
   step : (i : ℕ) (p : Part) → i < length rest → p ≡ get_or rest i p → take (i + 1 + 1) parts ≡ take (i + 1) parts ++ p ∷ []
-  step i p less here = let (at, is) = first_of_all parts name_at name rest first in
+  step i p less here = let (at, is) = first_of_all parts name_at name coordinates rest first in
       let two : i + 1 + 1 ≡ suc (suc i) = omega arith in
       let one : i + 1 ≡ suc i = omega arith in
-      (λ j. take (two j) (is j)) ∙ ap (λ (l : List Part). part.Begin at name_at name ∷ l) (taken_more i rest p less here) ∙ sym (λ j. take (one j) (is j) ++ p ∷ [])
+      (λ j. take (two j) (is j)) ∙ ap (λ (l : List Part). part.Begin at name_at name coordinates ∷ l) (taken_more i rest p less here) ∙ sym (λ j. take (one j) (is j) ++ p ∷ [])
 
   whole : (i : ℕ) (p : Part) → i < length rest → p ≡ get_or rest i p → parts ≡ take (i + 1) parts ++ p ∷ drop (suc i) rest
-  whole i p less here = let (at, is) = first_of_all parts name_at name rest first in
+  whole i p less here = let (at, is) = first_of_all parts name_at name coordinates rest first in
       let one : i + 1 ≡ suc i = omega arith in
-      is ∙ ap (λ (l : List Part). part.Begin at name_at name ∷ l) (parted i rest p less here) ∙ sym (λ j. take (one j) (is j) ++ p ∷ drop (suc i) rest)
+      is ∙ ap (λ (l : List Part). part.Begin at name_at name coordinates ∷ l) (parted i rest p less here) ∙ sym (λ j. take (one j) (is j) ++ p ∷ drop (suc i) rest)
 
   -- one part more
   pub more_read : (i : ℕ) (p : Part) (old later : List (List ℕ)) (nodes now : ℕ) → i < length rest → p ≡ get_or rest i p → SoFar texts parts (i + 1) nodes old
@@ -121,7 +122,7 @@ module _ (texts : List (List ℕ)) (parts rest : List Part) (name_at : ℕ) (nam
 
   -- all parts
   pub all_read : (A : Type 0) (i nodes : ℕ) (later : List (List ℕ)) (x : A) → length rest ≤ i → SoFar texts parts (i + 1) nodes later → IsTable texts parts (Ok x) later
-  all_read A i nodes later x past so_far = let (at, is) = first_of_all parts name_at name rest first in
+  all_read A i nodes later x past so_far = let (at, is) = first_of_all parts name_at name coordinates rest first in
       (parts, refl, so_far.table ∙ ap (λ (l : List Part). interned texts (texts_in l)) (all_taken (i + 1) parts (omega (arith, ap length is))))
 
 -- the parts up to a fault
@@ -144,19 +145,19 @@ stops A texts old later before behind p nodes e count table (inl memory) = no_me
 stops A texts old later before behind p nodes e count table (inr (told, is)) =
     stopped A texts later before behind p e (subst (λ (n : ℕ). TellsOf e n p) count told) (table_more texts old later before p table is)
 
-module _ (A : Type 0) (texts : List (List ℕ)) (parts rest : List Part) (name_at : ℕ) (name : List ℕ) (first : IsFirst parts name_at name rest) where
+module _ (A : Type 0) (texts : List (List ℕ)) (parts rest : List Part) (name_at : ℕ) (name : List ℕ) (coordinates : Option Coordinates) (first : IsFirstPart parts name_at name coordinates rest) where
   -- a fault at the first part
-  pub first_stops : (later : List (List ℕ)) (e : TreeFault) → ((at : ℕ) → (e ≡ fault.Memory) ⊎ (TellsOf e 0 (part.Begin at name_at name) × (later ≡ interned texts (name ∷ []))))
+  pub first_stops : (later : List (List ℕ)) (e : TreeFault) → ((at : ℕ) → (e ≡ fault.Memory) ⊎ (TellsOf e 0 (part.Begin at name_at name coordinates) × (later ≡ interned texts (name ∷ []))))
       → IsTable {A = A} texts parts (Err e) later
-  first_stops later e told = let (at, is) = first_of_all parts name_at name rest first in
+  first_stops later e told = let (at, is) = first_of_all parts name_at name coordinates rest first in
       subst (λ (l : List Part). IsTable {A = A} texts l (Err e) later) (sym is)
-      (stops A texts texts later [] rest (part.Begin at name_at name) 0 e refl (sym (interned_none texts)) (told at))
+      (stops A texts texts later [] rest (part.Begin at name_at name coordinates) 0 e refl (sym (interned_none texts)) (told at))
 
   -- or at a later one
   pub later_stops : (i : ℕ) (p : Part) (old later : List (List ℕ)) (nodes : ℕ) (e : TreeFault) → i < length rest → p ≡ get_or rest i p → SoFar texts parts (i + 1) nodes old
       → (e ≡ fault.Memory) ⊎ (TellsOf e nodes p × (later ≡ interned old (text_of p))) → IsTable {A = A} texts parts (Err e) later
   later_stops i p old later nodes e less here so_far told =
-      subst (λ (l : List Part). IsTable {A = A} texts l (Err e) later) (sym (whole texts parts rest name_at name first i p less here))
+      subst (λ (l : List Part). IsTable {A = A} texts l (Err e) later) (sym (whole texts parts rest name_at name coordinates first i p less here))
       (stops A texts old later (take (i + 1) parts) (drop (suc i) rest) p nodes e so_far.nodes_are so_far.table told)
 
 -- ---- the whole text

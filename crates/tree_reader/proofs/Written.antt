@@ -15,8 +15,9 @@ use Rattle.tree_store.specs.declared.fault.TreeFault.{TreeFault}
 use Rattle.tree_store.specs.declared.fault.TreeFault.TheVariants as fault
 use Rattle.tree_store.proofs.OpenLemmas.{open_kept, open_added}
 use Rattle.tree_reader.specs.Language.{Forest, none, node, int, string, parts_of}
-use Rattle.tree_reader.specs.WrittenTrees.{Asked, Frame, resume, node_fault, unless_fault, items, nodes, fault_among, meaning}
+use Rattle.tree_reader.specs.WrittenTrees.{Asked, Frame, resume, node_fault, unless_fault, items, nodes, fault_among, meaning, coordinates_of, no_coordinates, own, table_node}
 use Rattle.tree_reader.specs.Writing.{AreOpen, CanGrow, IsStack, IsPath, AreLeft, MakesOf, IsWritten, FailsAs, RefusesIf, StopsAt, MeansFault}
+use Rattle.tree_reader.specs.declared.part.Coordinates.{Coordinates}
 use Rattle.tree_reader.specs.declared.part.Part.{Part}
 use Rattle.tree_reader.specs.declared.part.Part.TheVariants as part
 use Rattle.tree_reader.specs.declared.writer.Open.{Open}
@@ -158,28 +159,28 @@ module _ (g : Asked ℕ) (shapes most : ℕ) (o : Open) (outer : List Open) (mor
         makes = made;
       }
 
-  pub stopped_node : (texts : List (List ℕ)) (t : Tree Value) (at name_at : ℕ) (name : List ℕ) (e : TreeFault) → node_fault g o.shape o.has (length t) at name_at name ≡ Some e
-      → IsWritten g texts t shapes most (Some o) outer (part.Begin at name_at name ∷ more) answer → answer ≡ Err e
-  stopped_node texts t at name_at name e stops w =
-      let h = here texts t (part.Begin at name_at name) w in
-      let r = framed texts t (part.Begin at name_at name) h.rest h.are_open h.makes.frames h.makes.left in
-      node_stops g texts t o r.f r.fs h.rest r.known at name_at name e more r.later answer r.f.rest refl r.parts
-      (h.makes.comes ∙ frames_are texts t (part.Begin at name_at name) h.rest h.are_open h.makes.frames h.makes.left) stops
+  pub stopped_node : (texts : List (List ℕ)) (t : Tree Value) (at name_at : ℕ) (name : List ℕ) (coordinates : Option Coordinates) (e : TreeFault) → node_fault g o.shape o.has (length t) at name_at name ≡ Some e
+      → IsWritten g texts t shapes most (Some o) outer (part.Begin at name_at name coordinates ∷ more) answer → answer ≡ Err e
+  stopped_node texts t at name_at name coordinates e stops w =
+      let h = here texts t (part.Begin at name_at name coordinates) w in
+      let r = framed texts t (part.Begin at name_at name coordinates) h.rest h.are_open h.makes.frames h.makes.left in
+      node_stops g texts t o r.f r.fs h.rest r.known at name_at name coordinates e more r.later answer r.f.rest refl r.parts
+      (h.makes.comes ∙ frames_are texts t (part.Begin at name_at name coordinates) h.rest h.are_open h.makes.frames h.makes.left) stops
 
-  pub written_node : (texts : List (List ℕ)) (t u : Tree Value) (at name_at : ℕ) (name : List ℕ) (new grown : Open) (pushed : List Open) → new.node ≡ length t → new.has ≡ 0 → new.shape < shapes
-      → grown ≡ with_one_more o → pushed ≡ outer ++ grown ∷ [] → u ≡ with_node t (g.rule new.shape) (Some o.node) → IsTree u
+  pub written_node : (texts : List (List ℕ)) (t u : Tree Value) (at name_at : ℕ) (name : List ℕ) (coordinates : Option Coordinates) (new grown : Open) (pushed : List Open) → new.node ≡ length t → new.has ≡ 0 → new.shape < shapes
+      → grown ≡ with_one_more o → pushed ≡ outer ++ grown ∷ [] → u ≡ with_node t (g.rule new.shape) (Some o.node) (own coordinates (coordinates_of t o.node)).line (own coordinates (coordinates_of t o.node)).column → IsTree u
       → g.named name ≡ Some new.shape → node_fault g o.shape o.has (length t) at name_at name ≡ None
-      → IsWritten g texts t shapes most (Some o) outer (part.Begin at name_at name ∷ more) answer → IsWritten g texts u shapes (most + 1) (Some new) pushed more answer
-  written_node texts t u at name_at name new grown pushed number empty fits is push added tree named free w =
-      let h = here texts t (part.Begin at name_at name) w in
-      let r = framed texts t (part.Begin at name_at name) h.rest h.are_open h.makes.frames h.makes.left in
-      let made = node_goes g texts t o r.f r.fs h.rest r.known at name_at name new more r.later answer r.f.rest refl r.parts r.left
-      (h.makes.comes ∙ frames_are texts t (part.Begin at name_at name) h.rest h.are_open h.makes.frames h.makes.left) h.makes.stable number named free in
+      → IsWritten g texts t shapes most (Some o) outer (part.Begin at name_at name coordinates ∷ more) answer → IsWritten g texts u shapes (most + 1) (Some new) pushed more answer
+  written_node texts t u at name_at name coordinates new grown pushed number empty fits is push added tree named free w =
+      let h = here texts t (part.Begin at name_at name coordinates) w in
+      let r = framed texts t (part.Begin at name_at name coordinates) h.rest h.are_open h.makes.frames h.makes.left in
+      let made = node_goes g texts t o r.f r.fs h.rest r.known at name_at name coordinates new more r.later answer r.f.rest refl r.parts r.left
+      (h.makes.comes ∙ frames_are texts t (part.Begin at name_at name coordinates) h.rest h.are_open h.makes.frames h.makes.left) h.makes.stable number named free in
       subst (λ (v : Tree Value). IsWritten g texts v shapes (most + 1) (Some new) pushed more answer) (sym added) (record {
         os = new ∷ with_one_more o ∷ h.rest;
         path = (with_one_more o ∷ h.rest, refl, (outer, push ∙ ap (λ (x : Open). outer ++ x ∷ []) is, h.stack));
-        are_open = open_after_node t shapes most (g.rule new.shape) o new h.rest h.are_open number empty fits;
-        can_grow = subst (λ (n : ℕ). IsOpen (with_node t (g.rule new.shape) (Some o.node)) n) (sym number) (open_added t (g.rule new.shape) (Some o.node));
+        are_open = open_after_node t shapes most (g.rule new.shape) (own coordinates (coordinates_of t o.node)).line (own coordinates (coordinates_of t o.node)).column o new h.rest h.are_open number empty fits;
+        can_grow = subst (λ (n : ℕ). IsOpen (with_node t (g.rule new.shape) (Some o.node) (own coordinates (coordinates_of t o.node)).line (own coordinates (coordinates_of t o.node)).column) n) (sym number) (open_added t (g.rule new.shape) (Some o.node) (own coordinates (coordinates_of t o.node)).line (own coordinates (coordinates_of t o.node)).column);
         tree = subst IsTree added tree;
         makes = made;
       })
@@ -226,11 +227,11 @@ root_chosen : {X : Type 0} (b : Bool) (x y : X) → b ≡ true → (if b then x 
 root_chosen true x y is = refl
 root_chosen false x y is = absurd (true≢false (sym is))
 
-first_at_zero : (g : Asked ℕ) (texts : List (List ℕ)) (shapes name_at : ℕ) (name : List ℕ) (shape : ℕ) (below : Forest) (end : ℕ)
-    → IsTree (with_node {V = Value} [] (g.rule shape) None) → shape < shapes → g.named name ≡ Some shape → g.is_root shape ≡ true
-    → IsWritten g texts (with_node [] (g.rule shape) None) shapes 0 (Some (record { node = 0; shape = shape; has = 0 })) [] (parts_of below ++ part.End end ∷ []) (meaning g name_at name below end)
-first_at_zero g texts shapes name_at name shape below end tree fits named root =
-    let table : Tree Plain = record { rule = g.rule shape; parent = None; place = 0; items = items g 1 below } ∷ nodes g 1 0 0 below in
+first_at_zero : (g : Asked ℕ) (texts : List (List ℕ)) (shapes name_at : ℕ) (name : List ℕ) (coordinates : Option Coordinates) (shape : ℕ) (below : Forest) (end : ℕ)
+    → IsTree (with_node {V = Value} [] (g.rule shape) None (own coordinates no_coordinates).line (own coordinates no_coordinates).column) → shape < shapes → g.named name ≡ Some shape → g.is_root shape ≡ true
+    → IsWritten g texts (with_node [] (g.rule shape) None (own coordinates no_coordinates).line (own coordinates no_coordinates).column) shapes 0 (Some (record { node = 0; shape = shape; has = 0 })) [] (parts_of below ++ part.End end ∷ []) (meaning g name_at name coordinates below end)
+first_at_zero g texts shapes name_at name coordinates shape below end tree fits named root =
+    let table : Tree Plain = table_node (g.rule shape) None 0 (own coordinates no_coordinates) (items g 1 below) ∷ nodes g 1 0 0 (own coordinates no_coordinates) below in
     record {
       os = record { node = 0; shape = shape; has = 0 } ∷ [];
       path = ([], refl, refl);
@@ -243,7 +244,7 @@ first_at_zero g texts shapes name_at name shape below end tree fits named root =
         comes = ap (λ (o : Option ℕ). elim o as (λ _. Result (Tree Plain) TreeFault) [
           | None ↦ Err (fault.UnknownRule name_at)
           | Some x ↦ if g.is_root x
-              then unless_fault (record { rule = g.rule x; parent = None; place = 0; items = items g 1 below } ∷ nodes g 1 0 0 below) (fault_among g x 0 1 below end)
+              then unless_fault (table_node (g.rule x) None 0 (own coordinates no_coordinates) (items g 1 below) ∷ nodes g 1 0 0 (own coordinates no_coordinates) below) (fault_among g x 0 1 below end)
               else Err (fault.WrongRoot name_at)
         ]) named
             ∙ root_chosen (g.is_root shape) (unless_fault table (fault_among g shape 0 1 below end)) (Err (fault.WrongRoot name_at)) root
@@ -252,20 +253,20 @@ first_at_zero g texts shapes name_at name shape below end tree fits named root =
       };
     }
 
-pub first_written : (g : Asked ℕ) (texts : List (List ℕ)) (t : Tree Value) (shapes name_at : ℕ) (name : List ℕ) (o : Open) (below : Forest) (end : ℕ)
-    → t ≡ with_node [] (g.rule o.shape) None → IsTree t → o.node ≡ 0 → o.has ≡ 0 → o.shape < shapes → g.named name ≡ Some o.shape → g.is_root o.shape ≡ true
-    → IsWritten g texts t shapes 0 (Some o) [] (parts_of below ++ part.End end ∷ []) (meaning g name_at name below end)
-first_written g texts t shapes name_at name o below end is tree number empty fits named root =
+pub first_written : (g : Asked ℕ) (texts : List (List ℕ)) (t : Tree Value) (shapes name_at : ℕ) (name : List ℕ) (coordinates : Option Coordinates) (o : Open) (below : Forest) (end : ℕ)
+    → t ≡ with_node [] (g.rule o.shape) None (own coordinates no_coordinates).line (own coordinates no_coordinates).column → IsTree t → o.node ≡ 0 → o.has ≡ 0 → o.shape < shapes → g.named name ≡ Some o.shape → g.is_root o.shape ≡ true
+    → IsWritten g texts t shapes 0 (Some o) [] (parts_of below ++ part.End end ∷ []) (meaning g name_at name coordinates below end)
+first_written g texts t shapes name_at name coordinates o below end is tree number empty fits named root =
     let same : o ≡ record { node = 0; shape = o.shape; has = 0 } = ap (λ (n : ℕ). record { node = n; shape = o.shape; has = o.has }) number ∙ ap (λ (n : ℕ). record { node = 0; shape = o.shape; has = n }) empty in
-    subst (λ (x : Open). IsWritten g texts t shapes 0 (Some x) [] (parts_of below ++ part.End end ∷ []) (meaning g name_at name below end)) (sym same)
-    (subst (λ (u : Tree Value). IsWritten g texts u shapes 0 (Some (record { node = 0; shape = o.shape; has = 0 })) [] (parts_of below ++ part.End end ∷ []) (meaning g name_at name below end)) (sym is)
-    (first_at_zero g texts shapes name_at name o.shape below end (subst IsTree is tree) fits named root))
+    subst (λ (x : Open). IsWritten g texts t shapes 0 (Some x) [] (parts_of below ++ part.End end ∷ []) (meaning g name_at name coordinates below end)) (sym same)
+    (subst (λ (u : Tree Value). IsWritten g texts u shapes 0 (Some (record { node = 0; shape = o.shape; has = 0 })) [] (parts_of below ++ part.End end ∷ []) (meaning g name_at name coordinates below end)) (sym is)
+    (first_at_zero g texts shapes name_at name coordinates o.shape below end (subst IsTree is tree) fits named root))
 
 -- ---- the loop
 
 no_parts : (f : Forest) (close : ℕ) (more : List Part) → [] ≡ parts_of f ++ (part.End close ∷ more) → ⊥
 no_parts none close more e = cc
-no_parts (node at name_at name below end after) close more e = cc
+no_parts (node at name_at name coordinates below end after) close more e = cc
 no_parts (int at z after) close more e = cc
 no_parts (string at text after) close more e = cc
 
@@ -294,11 +295,11 @@ pub no_more_parts : {g : Asked ℕ} {texts : List (List ℕ)} {t : Tree Value} {
     → (rest : List Part) (i : ℕ) → length rest ≤ i → IsWritten g texts t shapes most next outer (drop i rest) answer → IsWritten g texts t shapes most next outer [] answer
 no_more_parts {g} {texts} {t} {shapes} {most} {next} {outer} {answer} rest i past w = subst (λ (l : List Part). IsWritten g texts t shapes most next outer l answer) (drop_all i rest past) w
 
-pub means : (g : Asked ℕ) (parts : List Part) (at name_at : ℕ) (name : List ℕ) (below : Forest) (end : ℕ) (e : TreeFault) → parts ≡ parts_of (node at name_at name below end none)
-    → FailsAs (meaning g name_at name below end) e → MeansFault g parts e
-means g parts at name_at name below end (fault.TreeSyntax place) is fails = (at, name_at, name, below, end, is, fails)
-means g parts at name_at name below end (fault.UnknownRule place) is fails = (at, name_at, name, below, end, is, fails)
-means g parts at name_at name below end (fault.WrongRoot place) is fails = (at, name_at, name, below, end, is, fails)
-means g parts at name_at name below end (fault.WrongChild place) is fails = (at, name_at, name, below, end, is, fails)
-means g parts at name_at name below end (fault.TooMany what) is fails = (at, name_at, name, below, end, is, fails)
-means g parts at name_at name below end fault.Memory is fails = tt
+pub means : (g : Asked ℕ) (parts : List Part) (at name_at : ℕ) (name : List ℕ) (coordinates : Option Coordinates) (below : Forest) (end : ℕ) (e : TreeFault) → parts ≡ parts_of (node at name_at name coordinates below end none)
+    → FailsAs (meaning g name_at name coordinates below end) e → MeansFault g parts e
+means g parts at name_at name coordinates below end (fault.TreeSyntax place) is fails = (at, name_at, name, coordinates, below, end, is, fails)
+means g parts at name_at name coordinates below end (fault.UnknownRule place) is fails = (at, name_at, name, coordinates, below, end, is, fails)
+means g parts at name_at name coordinates below end (fault.WrongRoot place) is fails = (at, name_at, name, coordinates, below, end, is, fails)
+means g parts at name_at name coordinates below end (fault.WrongChild place) is fails = (at, name_at, name, coordinates, below, end, is, fails)
+means g parts at name_at name coordinates below end (fault.TooMany what) is fails = (at, name_at, name, coordinates, below, end, is, fails)
+means g parts at name_at name coordinates below end fault.Memory is fails = tt

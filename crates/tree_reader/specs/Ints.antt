@@ -8,7 +8,7 @@ use Rattle.tree_reader.specs.declared.part.Part.TheVariants as part
 -- Each number among the siblings and below them is one of 64 bits.
 abbrev pub HasInts : Forest → Type 0
 HasInts none = ⊤
-HasInts (node at name_at name below end after) = HasInts below × HasInts after
+HasInts (node at name_at name coordinates below end after) = HasInts below × HasInts after
 HasInts (int at value after) = FitsSigned w64 value × HasInts after
 HasInts (string at text after) = HasInts after
 

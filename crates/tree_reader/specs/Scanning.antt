@@ -7,7 +7,8 @@ use Rattle.lido_lexer.specs.Tokens.{IsName, IsPart, IsQuoted}
 use Rattle.tree_store.specs.declared.fault.TreeFault.{TreeFault}
 use Rattle.tree_store.specs.declared.fault.TreeFault.TheVariants as fault
 use Rattle.sum_trees.specs.Bytes.{is_white, is_digit, is_name_byte, behind, said_after, minus}
-use Rattle.tree_reader.specs.Language.{Forest, parts_of, IsOneNode, IsTreeOf, IsTreeText, StandsAt, Spells}
+use Rattle.tree_reader.specs.Language.{Forest, parts_of, IsOneNode, IsTreeOf, IsTreeText, HasCoordinates, IsNumber, StandsAt, Spells}
+use Rattle.tree_reader.specs.declared.part.Coordinates.{Coordinates}
 use Rattle.tree_reader.specs.declared.part.Part.{Part}
 use Rattle.tree_reader.specs.declared.part.Part.TheVariants as part
 use Rattle.tree_reader.specs.declared.scanner.Phase.{Phase}
@@ -41,13 +42,42 @@ signed negative n = if negative then minus n else pos n
 abbrev pub octal_after : ℕ → List ℕ → ℕ
 octal_after n digits = fold (λ m b. m * 8 + (b - 48)) n digits
 
+-- All the digits in front go on with a number of which so many digits that write this value stand before: there are 1 to 10 of
+-- them, and they write this number of 32 bits.
+pub record IsNumberAfter (count value : ℕ) (bytes : List ℕ) (n : ℕ) (rest : List ℕ) : Type 0 where
+  pub some : 0 < count + length (take_while is_digit bytes)
+  pub few : count + length (take_while is_digit bytes) ≤ 10
+  pub value_is : n ≡ said_after value (take_while is_digit bytes)
+  pub fits : n ≤ 4294967295
+  pub after : rest ≡ behind is_digit bytes
+
+-- One digit more goes on with a number of which so many digits that write this value stand before.
+abbrev pub IsDigitOn : ℕ → ℕ → ℕ → Type 0
+IsDigitOn count value b = (count < 10) × (value * 10 + (b - 48) ≤ 4294967295)
+
+-- So many digits, with which a coordinate begins, write this value.
+pub record IsBegunNumber (count value : ℕ) : Type 0 where
+  pub few : count ≤ 10
+  pub fits : value ≤ 4294967295
+  pub none : count ≡ 0 → value ≡ 0
+
+-- A node of this name begins at this place; behind its name stand the bytes, which are its coordinates, where it has some, and
+-- then further parts.
+abbrev pub BeginsNode : ℕ → ℕ → List ℕ → ℕ → List ℕ → List Part → Type 0
+BeginsNode at name_at name end bytes parts = (coordinates : Option Coordinates) × (rest : List ℕ) × (more : List Part)
+    × (parts ≡ part.Begin at name_at name coordinates ∷ more) × HasCoordinates bytes coordinates rest × Spells end more rest
+
 -- The bytes are what is left of the part that is begun, of which this text is held, and then they are further parts.
 abbrev pub Begun : Phase → List ℕ → ℕ → List ℕ → List Part → Type 0
 Begun phase.Gap held end bytes parts = Spells end parts bytes
-Begun (phase.Opened at) held end bytes parts = (name_at : ℕ) × (name : List ℕ) × (rest : List ℕ) × (more : List Part) × (parts ≡ part.Begin at name_at name ∷ more)
-    × StandsAt end name_at (behind is_white bytes) × IsName (behind is_white bytes) name rest × Spells end more rest
-Begun (phase.Name at name_at) held end bytes parts = (more : List Part) × (parts ≡ part.Begin at name_at (held ++ take_while is_name_byte bytes) ∷ more)
-    × Spells end more (behind is_name_byte bytes)
+Begun (phase.Opened at) held end bytes parts = (name_at : ℕ) × (name : List ℕ) × (rest : List ℕ)
+    × StandsAt end name_at (behind is_white bytes) × IsName (behind is_white bytes) name rest × BeginsNode at name_at name end rest parts
+Begun (phase.Name at name_at) held end bytes parts = BeginsNode at name_at (held ++ take_while is_name_byte bytes) end (behind is_name_byte bytes) parts
+Begun (phase.Named at name_at) held end bytes parts = BeginsNode at name_at held end bytes parts
+Begun (phase.Line at name_at count value) held end bytes parts = (c : Coordinates) × (digits : List ℕ) × (rest : List ℕ) × (more : List Part)
+    × (parts ≡ part.Begin at name_at held (Some c) ∷ more) × IsNumberAfter count value bytes c.line (58 ∷ digits) × IsNumber digits c.column rest × Spells end more rest
+Begun (phase.Column at name_at line count value) held end bytes parts = (column : ℕ) × (rest : List ℕ) × (more : List Part)
+    × (parts ≡ part.Begin at name_at held (Some (record { line = line; column = column })) ∷ more) × IsNumberAfter count value bytes column rest × Spells end more rest
 Begun (phase.Minus at) held end bytes parts = (z : ℤ) × (more : List Part) × (parts ≡ part.Int at z ∷ more) × (0 < length (take_while is_digit bytes))
     × (z ≡ minus (said_after 0 (take_while is_digit bytes))) × FitsSigned w64 z × Spells end more (behind is_digit bytes)
 Begun (phase.Digits at negative value) held end bytes parts = (z : ℤ) × (more : List Part) × (parts ≡ part.Int at z ∷ more)
@@ -65,6 +95,9 @@ abbrev pub CanStand : Phase → List ℕ → Option ℕ → Type 0
 CanStand phase.Gap held depth = held ≡ []
 CanStand (phase.Opened at) held depth = (held ≡ []) × (depth ≢ Some 0)
 CanStand (phase.Name at name_at) held depth = depth ≢ Some 0
+CanStand (phase.Named at name_at) held depth = depth ≢ Some 0
+CanStand (phase.Line at name_at count value) held depth = (depth ≢ Some 0) × IsBegunNumber count value
+CanStand (phase.Column at name_at line count value) held depth = (depth ≢ Some 0) × IsBegunNumber count value
 CanStand (phase.Minus at) held depth = (held ≡ []) × (d : ℕ) × (depth ≡ Some (suc d))
 CanStand (phase.Digits at negative value) held depth = (held ≡ []) × (d : ℕ) × (depth ≡ Some (suc d)) × FitsSigned w64 (signed negative value)
 CanStand (phase.Text at) held depth = (d : ℕ) × (depth ≡ Some (suc d))

@@ -12,7 +12,7 @@ use Rattle.tree_reader.specs.declared.part.Part.TheVariants as part
 
 -- The text that a part has: a rule's name, or a string.
 abbrev pub text_of : Part → List (List ℕ)
-text_of (part.Begin at name_at name) = name ∷ []
+text_of (part.Begin at name_at name coordinates) = name ∷ []
 text_of (part.Str at text) = text ∷ []
 text_of _ = []
 
@@ -22,15 +22,15 @@ texts_in [] = []
 texts_in (p ∷ parts) = text_of p ++ texts_in parts
 
 -- The place of a part's first byte.
-abbrev pub place_of : Part → ℕ
-place_of (part.Begin at name_at name) = at
-place_of (part.Int at value) = at
-place_of (part.Str at text) = at
-place_of (part.End at) = at
+abbrev pub part_place : Part → ℕ
+part_place (part.Begin at name_at name coordinates) = at
+part_place (part.Int at value) = at
+part_place (part.Str at text) = at
+part_place (part.End at) = at
 
 -- How many nodes begin with this part.
 abbrev pub begins : Part → ℕ
-begins (part.Begin at name_at name) = 1
+begins (part.Begin at name_at name coordinates) = 1
 begins _ = 0
 
 -- How many nodes begin among the parts.
@@ -40,10 +40,10 @@ begun (p ∷ parts) = begins p + begun parts
 
 -- The fault tells of this part, before which so many nodes begin: of its name, of its place, or that it begins one node too many.
 abbrev pub TellsOf : TreeFault → ℕ → Part → Type 0
-TellsOf (fault.UnknownRule place) nodes (part.Begin at name_at name) = place ≡ name_at
-TellsOf (fault.WrongRoot place) nodes (part.Begin at name_at name) = place ≡ name_at
-TellsOf (fault.WrongChild place) nodes p = place ≡ place_of p
-TellsOf (fault.TooMany many.Nodes) nodes (part.Begin at name_at name) = nodes ≡ most_nodes
+TellsOf (fault.UnknownRule place) nodes (part.Begin at name_at name coordinates) = place ≡ name_at
+TellsOf (fault.WrongRoot place) nodes (part.Begin at name_at name coordinates) = place ≡ name_at
+TellsOf (fault.WrongChild place) nodes p = place ≡ part_place p
+TellsOf (fault.TooMany many.Nodes) nodes (part.Begin at name_at name coordinates) = nodes ≡ most_nodes
 TellsOf _ _ _ = ⊥
 
 -- The part is read: its text is among the texts, and a fault tells of it; or memory ran out.

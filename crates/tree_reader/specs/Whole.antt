@@ -23,8 +23,8 @@ With a p (Err e) = p (Err e)
 module _ (symbols : List FlatSymbol) (rules : List FlatRule) (shapes : List Shape) where
   -- The flat tree of a written tree, with the written node of each flat node; or what the flat tree has too much of.
   unfoldable pub FlatOf : Tree Plain → Result (Tree Plain × List ℕ) TreeFault → Type 0
-  FlatOf written (Ok x) = IsFlatTree symbols rules shapes written x.0 x.1 × IsWithinLimits symbols rules x.0
-  FlatOf written (Err e) = (flat : Tree Plain) × (node_of : List ℕ) × IsFlatTree symbols rules shapes written flat node_of
+  FlatOf written (Ok x) = IsFlatTree rules shapes written x.0 x.1 × IsWithinLimits symbols rules x.0
+  FlatOf written (Err e) = (flat : Tree Plain) × (node_of : List ℕ) × IsFlatTree rules shapes written flat node_of
       × HasTooMany symbols rules flat e
 
 module _ (symbols : List FlatSymbol) (rules : List FlatRule) (shapes : List Shape) (root : SymId) (texts : List (List ℕ)) (text : List ℕ) where

@@ -8,6 +8,7 @@ use Rattle.tree_store.specs.declared.fault.TreeFault.{TreeFault}
 use Rattle.tree_store.specs.declared.fault.TreeFault.TheVariants as fault
 use Rattle.tree_reader.specs.Language.{parts_of, Forest, node, none}
 use Rattle.tree_reader.specs.WrittenTrees.{Asked, Frame, resume, meaning}
+use Rattle.tree_reader.specs.declared.part.Coordinates.{Coordinates}
 use Rattle.tree_reader.specs.declared.part.Part.{Part}
 use Rattle.tree_reader.specs.declared.part.Part.TheVariants as part
 use Rattle.tree_reader.specs.declared.writer.Open.{Open}
@@ -80,13 +81,13 @@ FailsAs answer e = answer ≡ Err e
 
 -- The parts are those of a node, and this is what it means.
 abbrev pub IsMeaning : Asked ℕ → List Part → Result (Tree Plain) TreeFault → Type 0
-IsMeaning g parts r = (at : ℕ) × (name_at : ℕ) × (name : List ℕ) × (below : Forest) × (end : ℕ) × (parts ≡ parts_of (node at name_at name below end none)) × (meaning g name_at name below end ≡ r)
+IsMeaning g parts r = (at : ℕ) × (name_at : ℕ) × (name : List ℕ) × (coordinates : Option Coordinates) × (below : Forest) × (end : ℕ) × (parts ≡ parts_of (node at name_at name coordinates below end none)) × (meaning g name_at name coordinates below end ≡ r)
 
 -- The parts mean this fault; or memory ran out.
 abbrev pub MeansFault : Asked ℕ → List Part → TreeFault → Type 0
 MeansFault g parts fault.Memory = ⊤
 MeansFault g parts e = IsMeaning g parts (Err e)
 
--- The parts are those of a node of this name, which stands at this place, and others are behind the first.
-abbrev pub IsFirst : List Part → ℕ → List ℕ → List Part → Type 0
-IsFirst parts name_at name rest = (at : ℕ) × (below : Forest) × (end : ℕ) × (parts ≡ parts_of (node at name_at name below end none)) × (rest ≡ parts_of below ++ (part.End end ∷ []))
+-- The parts are those of a node of this name, which stands at this place, with these coordinates, and others are behind the first.
+abbrev pub IsFirstPart : List Part → ℕ → List ℕ → Option Coordinates → List Part → Type 0
+IsFirstPart parts name_at name coordinates rest = (at : ℕ) × (below : Forest) × (end : ℕ) × (parts ≡ parts_of (node at name_at name coordinates below end none)) × (rest ≡ parts_of below ++ (part.End end ∷ []))

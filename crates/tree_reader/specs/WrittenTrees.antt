@@ -1,12 +1,13 @@
 -- What a bracketed tree means over a flat grammar: the first fault of its nodes from the left, or the written tree as a table.
 use Rattle.std.specs.Prelude.{◌+◌, ℕ, zero, suc, Bool, nat_le, if◌then◌else◌, List, [], ◌∷◌, ◌++◌, length, Option, Some, None, Result, Ok, Err}
 use Rattle.lido_base.specs.Plain.{Plain, Int, Str}
-use Rattle.lido_base.specs.Tree.{Tree, Item, Child, Leaf, places}
+use Rattle.lido_base.specs.Tree.{Tree, Node, Item, Child, Leaf, line_of, column_of, places}
 use Rattle.lido_base.specs.declared.kinds.Many.TheVariants as many
 use Rattle.lido_base.specs.declared.value.ValueType.{ValueType}
 use Rattle.lido_base.specs.declared.value.ValueType.TheVariants as type
 use Rattle.tree_store.specs.declared.fault.TreeFault.{TreeFault}
 use Rattle.tree_store.specs.declared.fault.TreeFault.TheVariants as fault
+use Rattle.tree_reader.specs.declared.part.Coordinates.{Coordinates}
 use Rattle.tree_reader.specs.Language.{Forest, none, node, int, string}
 
 -- the most nodes that a written tree may have
@@ -18,9 +19,26 @@ most_nodes = 1048576
 -- How many nodes there are among the siblings and below them.
 abbrev pub count : Forest → ℕ
 count none = 0
-count (node at name_at name below end after) = suc (count below + count after)
+count (node at name_at name coordinates below end after) = suc (count below + count after)
 count (int at value after) = count after
 count (string at text after) = count after
+
+-- The line and the column of a node.
+abbrev pub coordinates_of : {V : Type 0} → Tree V → ℕ → Coordinates
+coordinates_of t n = record { line = line_of t n; column = column_of t n }
+
+-- The coordinates above node 0.
+abbrev pub no_coordinates : Coordinates
+no_coordinates = record { line = 0; column = 0 }
+
+-- The coordinates of a node: those written behind its name, else those of the node above.
+abbrev pub own : Option Coordinates → Coordinates → Coordinates
+own None above = above
+own (Some c) above = c
+
+-- A node of the table.
+abbrev pub table_node : ℕ → Option ℕ → ℕ → Coordinates → List (Item Plain) → Node Plain
+table_node rule parent place c items = record { rule = rule; parent = parent; place = place; line = c.line; column = c.column; items = items }
 
 -- The first fault if there is one, else the second.
 abbrev pub first_of : Option TreeFault → Option TreeFault → Option TreeFault
@@ -64,18 +82,19 @@ module _ {S : Type 0} (g : Asked S) where
   -- The siblings as items of their parent, whose first node has the number n.
   abbrev pub items : ℕ → Forest → List (Item Plain)
   items n none = []
-  items n (node at name_at name below end after) = Child n ∷ items (suc (n + count below)) after
+  items n (node at name_at name coordinates below end after) = Child n ∷ items (suc (n + count below)) after
   items n (int at value after) = Leaf (Int value) ∷ items n after
   items n (string at text after) = Leaf (Str text) ∷ items n after
 
-  -- The nodes among the siblings and below them in preorder, numbered from n. Their parent is p, and the first sibling is its
-  -- child k.
-  abbrev pub nodes : ℕ → ℕ → ℕ → Forest → Tree Plain
-  nodes n p k none = []
-  nodes n p k (node at name_at name below end after) =
-      record { rule = rule_named name; parent = Some p; place = suc k; items = items (suc n) below } ∷ (nodes (suc n) n 0 below ++ nodes (suc (n + count below)) p (suc k) after)
-  nodes n p k (int at value after) = nodes n p (suc k) after
-  nodes n p k (string at text after) = nodes n p (suc k) after
+  -- The nodes among the siblings and below them in preorder, numbered from n. Their parent is p, with these coordinates, and the
+  -- first sibling is its child k.
+  abbrev pub nodes : ℕ → ℕ → ℕ → Coordinates → Forest → Tree Plain
+  nodes n p k above none = []
+  nodes n p k above (node at name_at name coordinates below end after) =
+      table_node (rule_named name) (Some p) (suc k) (own coordinates above) (items (suc n) below)
+      ∷ (nodes (suc n) n 0 (own coordinates above) below ++ nodes (suc (n + count below)) p (suc k) above after)
+  nodes n p k above (int at value after) = nodes n p (suc k) above after
+  nodes n p k above (string at text after) = nodes n p (suc k) above after
 
   -- The first fault of the siblings that are the children of a node from child k on, where n nodes stand before them, and whose
   -- closing bracket is at `close`.
@@ -83,7 +102,7 @@ module _ {S : Type 0} (g : Asked S) where
   fault_among s k n none close = if g.is_enough s k then None else Some (fault.WrongChild close)
   fault_among s k n (int at value after) close = if g.takes_value s k type.Int then fault_among s (suc k) n after close else Some (fault.WrongChild at)
   fault_among s k n (string at text after) close = if g.takes_value s k type.Str then fault_among s (suc k) n after close else Some (fault.WrongChild at)
-  fault_among s k n (node at name_at name below end after) close = elim (g.named name) [
+  fault_among s k n (node at name_at name coordinates below end after) close = elim (g.named name) [
     | None ↦ Some (fault.UnknownRule name_at)
     | Some x ↦ if g.takes s k x
         then (if nat_le most_nodes n then Some (fault.TooMany many.Nodes) else first_of (fault_among x 0 (suc n) below end) (fault_among s (suc k) (suc (n + count below)) after close))
@@ -91,11 +110,11 @@ module _ {S : Type 0} (g : Asked S) where
   ]
 
   -- What a tree means: its first fault from the left, or its table.
-  abbrev pub meaning : ℕ → List ℕ → Forest → ℕ → Result (Tree Plain) TreeFault
-  meaning name_at name below end = elim (g.named name) [
+  abbrev pub meaning : ℕ → List ℕ → Option Coordinates → Forest → ℕ → Result (Tree Plain) TreeFault
+  meaning name_at name coordinates below end = elim (g.named name) [
     | None ↦ Err (fault.UnknownRule name_at)
     | Some x ↦ if g.is_root x
-        then unless_fault (record { rule = g.rule x; parent = None; place = 0; items = items 1 below } ∷ nodes 1 0 0 below) (fault_among x 0 1 below end)
+        then unless_fault (table_node (g.rule x) None 0 (own coordinates no_coordinates) (items 1 below) ∷ nodes 1 0 0 (own coordinates no_coordinates) below) (fault_among x 0 1 below end)
         else Err (fault.WrongRoot name_at)
   ]
 
@@ -108,7 +127,7 @@ module _ {S : Type 0} (g : Asked S) where
 
   -- The table with the siblings as further children of node p.
   abbrev pub fill : Tree Plain → ℕ → Forest → Tree Plain
-  fill t p f = add_items t p (items (length t) f) ++ nodes (length t) p (places t p) f
+  fill t p f = add_items t p (items (length t) f) ++ nodes (length t) p (places t p) (coordinates_of t p) f
 
   -- What comes of a table, where these nodes are open.
   abbrev pub resume : List (Frame S) → Tree Plain → Result (Tree Plain) TreeFault

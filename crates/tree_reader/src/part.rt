@@ -1,14 +1,23 @@
 //! The parts of a bracketed tree's text.
 use lido_base::List;
 
+/// A line and a column, as they stand behind a name.
+#[derive(Clone, Copy, Debug, PartialEq, Eq)]
+pub struct Coordinates {
+    pub line: u32,
+    pub column: u32,
+}
+
 /// A part, with the place of its first byte.
 #[derive(Debug, Drop)]
 pub enum Part {
-    /// A bracket that begins a node, and the name of its rule, which has a place of its own.
+    /// A bracket that begins a node, the name of its rule, which has a place of its own, and the coordinates behind it, if there
+    /// are some.
     Begin {
         at: u32,
         name_at: u32,
         name: List<u8>,
+        coordinates: Option<Coordinates>,
     },
     /// A number.
     Int {

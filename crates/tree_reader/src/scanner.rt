@@ -4,10 +4,10 @@ ghost use Rattle.std.specs.Int.{w64};
 ghost use Rattle.std.specs.Option.{SomeIff};
 ghost use Rattle.lido_base.specs.Phases.{Gives};
 ghost use Rattle.lido_lexer.specs.Bytes.{is_octal};
-ghost use Rattle.sum_trees.specs.Bytes.{is_white, is_name_byte};
-ghost use Rattle.tree_reader.specs.Scanning.{Scanning, Moves, Refuses, HasScanned, IsShallow, Stands, deeper, signed, is_done};
+ghost use Rattle.sum_trees.specs.Bytes.{is_white, is_digit, is_name_byte};
+ghost use Rattle.tree_reader.specs.Scanning.{Scanning, Moves, Refuses, HasScanned, IsShallow, Stands, deeper, signed, is_done, IsDigitOn};
 
-use crate::part::Part;
+use crate::part::{Coordinates, Part};
 use lido_base::List;
 use lido_lexer::{escaped, is_octal, is_plain};
 use std::alloc::{AllocError, Global};
@@ -23,6 +23,12 @@ enum Phase {
     Opened { at: u32 },
     /// A bracket, and letters of its name.
     Name { at: u32, name_at: u32 },
+    /// A bracket and its name, and white space behind it.
+    Named { at: u32, name_at: u32 },
+    /// A bracket, its name, an @ and so many digits of the line, which write this number.
+    Line { at: u32, name_at: u32, count: u8, value: u32 },
+    /// A bracket, its name, an @, the line, a colon and so many digits of the column, which write this number.
+    Column { at: u32, name_at: u32, line: u32, count: u8, value: u32 },
     /// A minus.
     Minus { at: u32 },
     /// Digits, which write this number.
@@ -73,6 +79,20 @@ fn signed_value(negative: bool, value: u64) -> i64
     } else {
         -(value as i64)
     }
+}
+
+/// The number of 32 bits that one digit more writes, if there are 10 digits at most.
+fn coordinate_on(count: u8, value: u32, b: u8) -> Option<u32>
+    ensures { SomeIff result (IsDigitOn count value b) (value * 10 + (b - 48)) }
+{
+    if count >= 10 || value > 429_496_729 {
+        return None;
+    }
+    let next = u64::from(value) * 10 + u64::from(b.saturating_sub(b'0'));
+    if next > 4_294_967_295 {
+        return None;
+    }
+    Some(next as u32)
 }
 
 /// What a name goes on with.
@@ -138,10 +158,16 @@ impl Scanner {
         }
     }
 
-    /// The name that is begun is whole: a node is open.
-    fn begin_node(&mut self, alloc: Global, at: u32, name_at: u32) -> Result<(), TreeFault>
+    /// The name that is held is whole, and these coordinates stand behind it: a node is open.
+    fn begin_node(
+        &mut self,
+        alloc: Global,
+        at: u32,
+        name_at: u32,
+        coordinates: Option<Coordinates>,
+    ) -> Result<(), TreeFault>
         requires few { IsShallow (2 ^ 32 - 2) self.old.depth }
-        ensures ok { OnOk result (self.new ≡ record { parts = self.old.parts ++ Part.Begin at name_at self.old.held ∷ []; phase = Phase.Gap; held = []; depth = Some (deeper self.old.depth) }) }
+        ensures ok { OnOk result (self.new ≡ record { parts = self.old.parts ++ Part.Begin at name_at self.old.held coordinates ∷ []; phase = Phase.Gap; held = []; depth = Some (deeper self.old.depth) }) }
         ensures memory { IfErr result (λ e. e ≡ TreeFault.Memory) }
     {
         let name = self.take_held(alloc);
@@ -149,7 +175,13 @@ impl Scanner {
             Some(depth) => depth + 1,
             None => 1,
         };
-        self.give(Part::Begin { at, name_at, name }, Some(depth))
+        let part = Part::Begin {
+            at,
+            name_at,
+            name,
+            coordinates,
+        };
+        self.give(part, Some(depth))
     }
 
     /// Between the children of a node: a part begins or ends.
@@ -249,6 +281,130 @@ impl Scanner {
         Err(TreeFault::TreeSyntax { at })
     }
 
+    /// Behind a name: coordinates may follow.
+    fn named(
+        &mut self,
+        alloc: Global,
+        b: u8,
+        from: u32,
+        name_at: u32,
+        at: u32,
+    ) -> Result<(), TreeFault>
+        requires stands { Stands self.old }
+        requires phase { self.old.phase ≡ Phase.Named from name_at }
+        requires shallow { IsShallow at self.old.depth }
+        requires small { at < 2 ^ 32 - 2 }
+        ensures moves { OnOk result (Moves at (b ∷ []) self.old [] self.new) }
+        ensures refused { IfErr result (λ e. Refuses at b self.old e) }
+        ensures shallow { OnOk result (IsShallow (at + 1) self.new.depth) }
+    {
+        if is_white(b) {
+            return Ok(());
+        }
+        if b == b'@' {
+            self.phase = Phase::Line {
+                at: from,
+                name_at,
+                count: 0,
+                value: 0,
+            };
+            return Ok(());
+        }
+        match self.begin_node(alloc, from, name_at, None) {
+            Ok(()) => self.gap(b, at),
+            Err(e) => Err(e),
+        }
+    }
+
+    /// In a line, which goes on, or is whole where a colon stands.
+    fn line(
+        &mut self,
+        b: u8,
+        from: u32,
+        name_at: u32,
+        count: u8,
+        value: u32,
+        at: u32,
+    ) -> Result<(), TreeFault>
+        requires stands { Stands self.old }
+        requires phase { self.old.phase ≡ Phase.Line from name_at count value }
+        requires shallow { IsShallow at self.old.depth }
+        ensures moves { OnOk result (Moves at (b ∷ []) self.old [] self.new) }
+        ensures refused { IfErr result (λ e. Refuses at b self.old e) }
+        ensures shallow { OnOk result (IsShallow (at + 1) self.new.depth) }
+    {
+        if is_digit(b) {
+            return match coordinate_on(count, value, b) {
+                Some(value) => {
+                    self.phase = Phase::Line {
+                        at: from,
+                        name_at,
+                        count: count + 1,
+                        value,
+                    };
+                    Ok(())
+                }
+                None => Err(TreeFault::TreeSyntax { at }),
+            };
+        }
+        if count == 0 || b != b':' {
+            return Err(TreeFault::TreeSyntax { at });
+        }
+        self.phase = Phase::Column {
+            at: from,
+            name_at,
+            line: value,
+            count: 0,
+            value: 0,
+        };
+        Ok(())
+    }
+
+    /// In a column, which goes on or is whole.
+    fn column(
+        &mut self,
+        alloc: Global,
+        b: u8,
+        from: u32,
+        name_at: u32,
+        line: u32,
+        count: u8,
+        value: u32,
+        at: u32,
+    ) -> Result<(), TreeFault>
+        requires stands { Stands self.old }
+        requires phase { self.old.phase ≡ Phase.Column from name_at line count value }
+        requires shallow { IsShallow at self.old.depth }
+        requires small { at < 2 ^ 32 - 2 }
+        ensures moves { OnOk result (Moves at (b ∷ []) self.old [] self.new) }
+        ensures refused { IfErr result (λ e. Refuses at b self.old e) }
+        ensures shallow { OnOk result (IsShallow (at + 1) self.new.depth) }
+    {
+        if is_digit(b) {
+            return match coordinate_on(count, value, b) {
+                Some(value) => {
+                    self.phase = Phase::Column {
+                        at: from,
+                        name_at,
+                        line,
+                        count: count + 1,
+                        value,
+                    };
+                    Ok(())
+                }
+                None => Err(TreeFault::TreeSyntax { at }),
+            };
+        }
+        if count == 0 {
+            return Err(TreeFault::TreeSyntax { at });
+        }
+        let column = value;
+        match self.begin_node(alloc, from, name_at, Some(Coordinates { line, column })) {
+            Ok(()) => self.gap(b, at),
+            Err(e) => Err(e),
+        }
+    }
+
     /// In a name, which goes on or is whole.
     fn name(
         &mut self,
@@ -269,10 +425,8 @@ impl Scanner {
         if is_name_byte(b) {
             return self.hold(b, Phase::Name { at: from, name_at });
         }
-        match self.begin_node(alloc, from, name_at) {
-            Ok(()) => self.gap(b, at),
-            Err(e) => Err(e),
-        }
+        self.phase = Phase::Named { at: from, name_at };
+        self.named(alloc, b, from, name_at, at)
     }
 
     /// Behind a minus: a digit follows.
@@ -454,6 +608,20 @@ impl Scanner {
             Phase::Gap => self.gap(b, at),
             Phase::Opened { at: from } => self.opened(b, from, at),
             Phase::Name { at: from, name_at } => self.name(alloc, b, from, name_at, at),
+            Phase::Named { at: from, name_at } => self.named(alloc, b, from, name_at, at),
+            Phase::Line {
+                at: from,
+                name_at,
+                count,
+                value,
+            } => self.line(b, from, name_at, count, value, at),
+            Phase::Column {
+                at: from,
+                name_at,
+                line,
+                count,
+                value,
+            } => self.column(alloc, b, from, name_at, line, count, value, at),
             Phase::Minus { at: from } => self.minus(b, from, at),
             Phase::Digits {
                 at: from,

@@ -67,7 +67,7 @@ pub fn read_tree(
         → Gives (λ trees. (plain_tree later trees.written, plain_tree later trees.flat, trees.node_of))
         (TreesOf flat.now.symbols flat.now.rules flat.now.shapes flat.now.root strings.old text.now) TreeFault.Memory result }
     ensures fits { IfOk result (λ trees. IsFitting flat.now.symbols flat.now.rules flat.now.shapes flat.now.root (plain_tree strings.new trees.written)) }
-    ensures flat { IfOk result (λ trees. IsFlatTree flat.now.symbols flat.now.rules flat.now.shapes trees.written trees.flat trees.node_of) }
+    ensures flat { IfOk result (λ trees. IsFlatTree flat.now.rules flat.now.shapes trees.written trees.flat trees.node_of) }
     ensures within { IfOk result (λ trees. IsWithinLimits flat.now.symbols flat.now.rules trees.flat) }
     // What was in `strings`, the text and the answer decide of what is in `strings` now.
     ensures table { IsTableOf strings.old text.now result strings.new }

@@ -7,20 +7,21 @@ ghost use Rattle.lido_base.specs.Plain.{Plain, plain_tree};
 ghost use Rattle.lido_base.specs.Tree.{Tree as Table, IsTree, Leaf, places, with_item, with_node};
 ghost use Rattle.lido_base.specs.declared.value.Value.{Value as Terminal};
 ghost use Rattle.tree_store.specs.declared.fault.TreeFault.{TreeFault};
+ghost use Rattle.tree_reader.specs.declared.part.Coordinates.{Coordinates};
 ghost use Rattle.tree_reader.specs.declared.part.Part.{Part};
 ghost use Rattle.tree_reader.specs.declared.writer.Open.{Open as OpenNode};
 ghost use Rattle.lido_lexer.specs.Lexing.{Gains};
 ghost use Rattle.tree_store.specs.Growth.{IsOpen};
 ghost use Rattle.tree_reader.specs.Asking.{IsNameTable, asked, shape_at};
-ghost use Rattle.tree_reader.specs.WrittenTrees.{Asked, node_fault, most_nodes, meaning};
+ghost use Rattle.tree_reader.specs.WrittenTrees.{Asked, coordinates_of, node_fault, most_nodes, meaning, own};
 ghost use Rattle.tree_reader.specs.Language.{Forest, parts_of, IsOneNode};
 ghost use Rattle.tree_reader.specs.Ints.{HasInt};
 ghost use Rattle.tree_reader.specs.Tables.{IsRead, IsTable, begins};
-ghost use Rattle.tree_reader.specs.Writing.{RefusesIf, StopsAt, IsWritten, FailsAs, IsMeaning, IsFirst};
+ghost use Rattle.tree_reader.specs.Writing.{RefusesIf, StopsAt, IsWritten, FailsAs, IsMeaning, IsFirstPart};
 
 use crate::asking::{is_enough, may_be_node, may_be_root, may_be_value};
 use crate::names::{find_named, name_table};
-use crate::part::Part;
+use crate::part::{Coordinates, Part};
 use flat_grammar::{Flat, Shape};
 use lido_base::{List, Many, NodeId, Strings, Value, ValueType};
 use std::alloc::Global;
@@ -117,7 +118,7 @@ fn child_shape(
         → node_fault (asked flat.now.symbols flat.now.rules flat.now.shapes flat.now.root texts) parent.shape parent.has count at name_at name.now ≡ None) }
     ensures refused { IfErr result (λ e. (texts : List (List ℕ)) → Gains texts strings.old → length texts ≡ length names.now
         → StopsAt (node_fault (asked flat.now.symbols flat.now.rules flat.now.shapes flat.now.root texts) parent.shape parent.has count at name_at name.now) e) }
-    ensures read { IsRead strings.old count (Part.Begin at name_at name.now) result strings.new }
+    ensures read { (coordinates : Option Coordinates) → IsRead strings.old count (Part.Begin at name_at name.now coordinates) result strings.new }
     ensures few_texts { length strings.new ≤ length strings.old + 1 }
     ensures kept { Gains strings.old strings.new }
     ensures distinct { IsDistinctTexts strings.new }
@@ -226,6 +227,24 @@ fn write_end(
     }
 }
 
+/// The line and the column of a node.
+fn coordinates_of(tree: &Tree, n: NodeId) -> Coordinates
+    requires { n.0 < length tree.now }
+    ensures { result ≡ coordinates_of tree.now n.0 }
+{
+    Coordinates {
+        line: tree.line(n),
+        column: tree.column(n),
+    }
+}
+
+/// The coordinates of a node: those behind its name, else those of the node above.
+fn own_coordinates(coordinates: Option<Coordinates>, above: Coordinates) -> Coordinates
+    ensures { result ≡ own coordinates above }
+{
+    coordinates.unwrap_or(above)
+}
+
 /// A node begins among the children of an open node, which is as it is from then on and has the new one inside it.
 fn write_node(
     flat: &Flat,
@@ -237,6 +256,7 @@ fn write_node(
     at: u32,
     name_at: u32,
     name: &[u8],
+    coordinates: Option<Coordinates>,
 ) -> Result<Open, TreeFault>
     requires table { IsNameTable flat.now.rules flat.now.shapes (length names.now) names.now }
     requires shape { parent.shape < length flat.now.shapes }
@@ -246,13 +266,13 @@ fn write_node(
     requires few_nodes { length tree.old ≤ most_nodes }
     ensures goes { IfOk result (λ now. (texts : List (List ℕ)) → Gains texts strings.old → length texts ≡ length names.now
         → (most : ℕ) (more : List Part) (answer : Result (Table Plain) TreeFault)
-        → IsWritten (asked flat.now.symbols flat.now.rules flat.now.shapes flat.now.root texts) strings.old tree.old (length flat.now.shapes) most (Some parent) outer.old (Part.Begin at name_at name.now ∷ more) answer
+        → IsWritten (asked flat.now.symbols flat.now.rules flat.now.shapes flat.now.root texts) strings.old tree.old (length flat.now.shapes) most (Some parent) outer.old (Part.Begin at name_at name.now coordinates ∷ more) answer
         → IsWritten (asked flat.now.symbols flat.now.rules flat.now.shapes flat.now.root texts) strings.new tree.new (length flat.now.shapes) (most + 1) (Some now) outer.new more answer) }
     ensures refused { IfErr result (λ e. (texts : List (List ℕ)) → Gains texts strings.old → length texts ≡ length names.now
         → (most : ℕ) (more : List Part) (answer : Result (Table Plain) TreeFault)
-        → IsWritten (asked flat.now.symbols flat.now.rules flat.now.shapes flat.now.root texts) strings.old tree.old (length flat.now.shapes) most (Some parent) outer.old (Part.Begin at name_at name.now ∷ more) answer
+        → IsWritten (asked flat.now.symbols flat.now.rules flat.now.shapes flat.now.root texts) strings.old tree.old (length flat.now.shapes) most (Some parent) outer.old (Part.Begin at name_at name.now coordinates ∷ more) answer
         → FailsAs answer e) }
-    ensures read { IsRead strings.old (length tree.old) (Part.Begin at name_at name.now) result strings.new }
+    ensures read { IsRead strings.old (length tree.old) (Part.Begin at name_at name.now coordinates) result strings.new }
     ensures few_texts { length strings.new ≤ length strings.old + 1 }
     ensures count { OnOk result (length tree.new ≡ length tree.old + 1) }
     ensures kept { Gains strings.old strings.new }
@@ -268,7 +288,9 @@ fn write_node(
         ..parent
     };
     let rule = shape_at(flat, shape).rule;
-    let Ok(number) = tree.add_node(rule, Some(NodeId(parent.node))) else {
+    let above = NodeId(parent.node);
+    let own = own_coordinates(coordinates, coordinates_of(tree, above));
+    let Ok(number) = tree.add_node(rule, Some(above), own.line, own.column) else {
         return Err(TreeFault::Memory);
     };
     match outer.push(grown) {
@@ -289,14 +311,15 @@ fn first_node(
     strings: &mut Strings,
     name_at: u32,
     name: &[u8],
+    coordinates: Option<Coordinates>,
 ) -> Result<(Tree, Open), TreeFault>
     requires { IsNameTable flat.now.rules flat.now.shapes (length names.now) names.now }
     ensures goes { IfOk result (λ x. (texts : List (List ℕ)) → Gains texts strings.old → length texts ≡ length names.now → (below : Forest) (end : ℕ)
         → IsWritten (asked flat.now.symbols flat.now.rules flat.now.shapes flat.now.root texts) strings.new x.0 (length flat.now.shapes) 0 (Some x.1) [] (parts_of below ++ Part.End end ∷ [])
-        (meaning (asked flat.now.symbols flat.now.rules flat.now.shapes flat.now.root texts) name_at name.now below end)) }
+        (meaning (asked flat.now.symbols flat.now.rules flat.now.shapes flat.now.root texts) name_at name.now coordinates below end)) }
     ensures refused { IfErr result (λ e. (texts : List (List ℕ)) → Gains texts strings.old → length texts ≡ length names.now → (below : Forest) (end : ℕ)
-        → FailsAs (meaning (asked flat.now.symbols flat.now.rules flat.now.shapes flat.now.root texts) name_at name.now below end) e) }
-    ensures read { (at : ℕ) → IsRead strings.old 0 (Part.Begin at name_at name.now) result strings.new }
+        → FailsAs (meaning (asked flat.now.symbols flat.now.rules flat.now.shapes flat.now.root texts) name_at name.now coordinates below end) e) }
+    ensures read { (at : ℕ) → IsRead strings.old 0 (Part.Begin at name_at name.now coordinates) result strings.new }
     ensures few_texts { length strings.new ≤ length strings.old + 1 }
     ensures count { IfOk result (λ x. length x.0 ≡ 1) }
     ensures kept { Gains strings.old strings.new }
@@ -314,7 +337,9 @@ fn first_node(
     let Ok(mut tree) = Tree::new(alloc) else {
         return Err(TreeFault::Memory);
     };
-    match tree.add_node(shape_at(flat, shape).rule, None) {
+    let rule = shape_at(flat, shape).rule;
+    let own = own_coordinates(coordinates, Coordinates { line: 0, column: 0 });
+    match tree.add_node(rule, None, own.line, own.column) {
         Ok(number) => Ok((
             tree,
             Open {
@@ -359,7 +384,12 @@ fn write_part(
     ensures few_nodes { OnOk result (length tree.new ≤ most_nodes) }
 {
     match part {
-        Part::Begin { at, name_at, name } => {
+        Part::Begin {
+            at,
+            name_at,
+            name,
+            coordinates,
+        } => {
             match write_node(
                 flat,
                 names,
@@ -370,6 +400,7 @@ fn write_part(
                 *at,
                 *name_at,
                 name.as_slice(),
+                *coordinates,
             ) {
                 Ok(now) => Ok(Some(now)),
                 Err(e) => Err(e),
@@ -389,13 +420,21 @@ fn write_part(
     }
 }
 
-/// The name of the first part, which begins a node, with its place, and the parts behind it.
-fn first_name(parts: &[Part]) -> (u32, &[u8], &[Part])
+/// The name of the first part, which begins a node, with its place, its coordinates, and the parts behind it.
+fn first_name(parts: &[Part]) -> (u32, &[u8], Option<Coordinates>, &[Part])
     requires { IsOneNode parts.now }
-    ensures { IsFirst parts.now result.0 result.1.now result.2.now }
+    ensures { IsFirstPart parts.now result.0 result.1.now result.2 result.3.now }
 {
     match parts {
-        [Part::Begin { name_at, name, .. }, rest @ ..] => (*name_at, name.as_slice(), rest),
+        [
+            Part::Begin {
+                name_at,
+                name,
+                coordinates,
+                ..
+            },
+            rest @ ..,
+        ] => (*name_at, name.as_slice(), *coordinates, rest),
         _ => unreachable!(),
     }
 }
@@ -423,8 +462,9 @@ pub fn write_tree(
         return Err(TreeFault::Memory);
     };
     let names = names.as_slice();
-    let (name_at, name, rest) = first_name(parts);
-    let (mut tree, root) = match first_node(alloc, flat, names, strings, name_at, name) {
+    let (name_at, name, coordinates, rest) = first_name(parts);
+    let first = first_node(alloc, flat, names, strings, name_at, name, coordinates);
+    let (mut tree, root) = match first {
         Ok(first) => first,
         Err(e) => return Err(e),
     };

@@ -12,7 +12,7 @@ use Rattle.tree_reader.proofs.writer.write_part.Goals as goal
 
 pub returns-in-Err-clause-refused : goal.returns-in-Err-clause-refused
 returns-in-Err-clause-refused c = λ texts gains size most more answer written.
-    c.in-Err.ensures.refused texts gains size most more answer (part_is (c.in-Begin.is ∙ ap (λ (l : List ℕ). part.Begin c.in-Begin.at c.in-Begin.name_at l) (sym c.as_slice.ensures)) written)
+    c.in-Err.ensures.refused texts gains size most more answer (part_is (c.in-Begin.is ∙ ap (λ (l : List ℕ). part.Begin c.in-Begin.at c.in-Begin.name_at l c.in-Begin.coordinates) (sym c.as_slice.ensures)) written)
 
 pub returns-in-Err-write_int-clause-refused : goal.returns-in-Err-write_int-clause-refused
 returns-in-Err-write_int-clause-refused c = λ texts gains size most more answer written.
@@ -39,10 +39,10 @@ pub returns-in-End-clause-int : goal.returns-in-End-clause-int
 returns-in-End-clause-int c = on_ok c.write_end.result (has_int c.in-End.is tt)
 
 pub returns-in-Ok-clause-read : goal.returns-in-Ok-clause-read
-returns-in-Ok-clause-read c = ok_read c.args.strings.now c.write_node.new.strings c.args.part.now (part.Begin c.in-Begin.at c.in-Begin.name_at c.as_slice.result.now) (c.in-Begin.is ∙ ap (λ (l : List ℕ). part.Begin c.in-Begin.at c.in-Begin.name_at l) (sym c.as_slice.ensures)) c.in-Ok.ensures.read
+returns-in-Ok-clause-read c = ok_read c.args.strings.now c.write_node.new.strings c.args.part.now (part.Begin c.in-Begin.at c.in-Begin.name_at c.as_slice.result.now c.in-Begin.coordinates) (c.in-Begin.is ∙ ap (λ (l : List ℕ). part.Begin c.in-Begin.at c.in-Begin.name_at l c.in-Begin.coordinates) (sym c.as_slice.ensures)) c.in-Ok.ensures.read
 
 pub returns-in-Err-clause-read : goal.returns-in-Err-clause-read
-returns-in-Err-clause-read c = err_read c.args.strings.now c.write_node.new.strings (length c.args.tree.now) c.in-Err.e c.args.part.now (part.Begin c.in-Begin.at c.in-Begin.name_at c.as_slice.result.now) (c.in-Begin.is ∙ ap (λ (l : List ℕ). part.Begin c.in-Begin.at c.in-Begin.name_at l) (sym c.as_slice.ensures)) c.in-Err.ensures.read
+returns-in-Err-clause-read c = err_read c.args.strings.now c.write_node.new.strings (length c.args.tree.now) c.in-Err.e c.args.part.now (part.Begin c.in-Begin.at c.in-Begin.name_at c.as_slice.result.now c.in-Begin.coordinates) (c.in-Begin.is ∙ ap (λ (l : List ℕ). part.Begin c.in-Begin.at c.in-Begin.name_at l c.in-Begin.coordinates) (sym c.as_slice.ensures)) c.in-Err.ensures.read
 
 pub returns-in-Ok-write_int-clause-read : goal.returns-in-Ok-write_int-clause-read
 returns-in-Ok-write_int-clause-read c = ok_read c.args.strings.now c.args.strings.now c.args.part.now _ c.in-Int.is (sym (interned_none c.args.strings.now))

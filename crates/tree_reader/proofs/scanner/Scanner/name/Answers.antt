@@ -1,4 +1,4 @@
-use Rattle.std.proofs.Common.{sym, ◌∙◌}
+use Rattle.std.proofs.Common.{refl, sym, ◌∙◌}
 use Rattle.tree_reader.proofs.StepsOfScanner.{ok_then, name_on, name_whole}
 use Rattle.tree_reader.proofs.MovesLemmas.{moves_after, refused_after}
 use Rattle.tree_reader.proofs.scanner.Scanner.name.Goals as goal
@@ -7,10 +7,10 @@ pub returns-then-is_name_byte-clause-moves : goal.returns-then-is_name_byte-clau
 returns-then-is_name_byte-clause-moves c = ok_then c.hold.result
     (λ e. name_on c.args.at c.args.b c.args.from c.args.name_at c.args.self.now c.hold.new.self c.requires.phase c.requires.stands (sym c.is_name_byte.ensures ∙ c.if-is_name_byte.true) e) c.hold.ensures.ok
 
-pub returns-in-Ok-clause-moves : goal.returns-in-Ok-clause-moves
-returns-in-Ok-clause-moves c = moves_after c.gap.new.self c.gap.result
-    (name_whole c.args.at c.args.b c.args.from c.args.name_at c.args.self.now c.begin_node.new.self c.requires.phase c.requires.stands (sym c.is_name_byte.ensures ∙ c.if-is_name_byte.false) c.in-Ok.ensures.ok) c.gap.ensures.moves
+pub returns-clause-moves : goal.returns-clause-moves
+returns-clause-moves c = moves_after c.named.new.self c.named.result
+    (name_whole c.args.at c.args.b c.args.from c.args.name_at c.args.self.now _ c.requires.phase c.requires.stands (sym c.is_name_byte.ensures ∙ c.if-is_name_byte.false) refl) c.named.ensures.moves
 
-pub returns-in-Ok-clause-refused : goal.returns-in-Ok-clause-refused
-returns-in-Ok-clause-refused c = refused_after c.gap.result
-    (name_whole c.args.at c.args.b c.args.from c.args.name_at c.args.self.now c.begin_node.new.self c.requires.phase c.requires.stands (sym c.is_name_byte.ensures ∙ c.if-is_name_byte.false) c.in-Ok.ensures.ok) c.gap.ensures.refused
+pub returns-clause-refused : goal.returns-clause-refused
+returns-clause-refused c = refused_after c.named.result
+    (name_whole c.args.at c.args.b c.args.from c.args.name_at c.args.self.now _ c.requires.phase c.requires.stands (sym c.is_name_byte.ensures ∙ c.if-is_name_byte.false) refl) c.named.ensures.refused

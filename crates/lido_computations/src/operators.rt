@@ -1,7 +1,7 @@
 //! Operators and constants by their tokens, and the calls that operators give.
 ghost use Rattle.std.specs.Prelude.{◌≡◌, ◌+◌, ◌≤◌, None, Some, [], ◌∷◌, length, slice_get, IfErr, IfOk, MatchOption};
 ghost use Rattle.lido_lexer.specs.Lexing.{Gains};
-ghost use Rattle.lido_computations.specs.Functions.{IsAmong, Keeps, functions};
+ghost use Rattle.lido_computations.specs.Functions.{IsAmong, Keeps, known_words};
 ghost use Rattle.lido_computations.specs.Expressions.{constant_of, infix_of, prefix_of, start_of};
 
 use crate::ReadSpecFault;
@@ -121,7 +121,7 @@ pub(crate) fn function_name(
     ensures memory { IfErr result (λ fault. fault ≡ ReadSpecFault.Memory) }
     ensures kept { Gains strings.old strings.new }
     ensures few { length strings.new ≤ length strings.old + 1 }
-    ensures same { IsAmong functions function.now → Keeps strings.old strings.new }
+    ensures same { IsAmong known_words function.now → Keeps strings.old strings.new }
 {
     match strings.intern(function) {
         Ok(id) => Ok(Name { at, id }),

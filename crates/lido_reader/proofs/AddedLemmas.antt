@@ -1,4 +1,4 @@
--- Tables of texts that have the names of all functions, and what is added to them.
+-- Tables of texts that have all known words, and what is added to them.
 use Rattle.std.specs.Prelude.{◌≡◌, ℕ, ◌+◌, Bool, true, false, not, if◌then◌else◌, List, [], ◌∷◌, ◌++◌, Result, Ok, Err, OnOk, refl}
 use Rattle.std.proofs.Common.{sym, ap, subst, ◌∙◌, ◌||◌}
 use Rattle.std.specs.List.{list_any, IsDistinct, AllByRecursion}
@@ -20,7 +20,7 @@ use Rattle.lido_reader.specs.Items.{is_word, is_word_kind, rule_text}
 use Rattle.lido_reader.specs.Specification.{IsLater}
 use Rattle.lido_lexer.proofs.TablesLemmas.{interned_none, interned_one, interned_append}
 use Rattle.lido_lexer.specs.Tables.{interned}
-use Rattle.lido_computations.specs.Functions.{functions, IsAmong, HasAll, Keeps}
+use Rattle.lido_computations.specs.Functions.{known_words, IsAmong, HasAll, Keeps}
 use Rattle.lido_reader.specs.Added.{is_rule, is_rule_kind, lacks_name, called_names, first_names, rule_names, Adds, AddsSome, Owes}
 use Rattle.lido_reader.proofs.TextsLemmas.{gains_text}
 
@@ -180,7 +180,7 @@ pub some_of_all : {names old new : List (List ℕ)} → Adds names old new → A
 some_of_all {names} {old} {new} a = record { gains = λ h. subst (Gains new) (a.table h) (gains_none new) }
 
 pub adds_then_keeps : {names old mid new : List (List ℕ)} → mid ≡ interned old names → Keeps mid new → Adds names old new
-adds_then_keeps {names} {old} {mid} {new} e k = record { table = λ h. k.same (subst (HasAll functions) (sym e) (has_all_gained (interned_gains old names) h)) ∙ e }
+adds_then_keeps {names} {old} {mid} {new} e k = record { table = λ h. k.same (subst (HasAll known_words) (sym e) (has_all_gained (interned_gains old names) h)) ∙ e }
 
 pub adds_these : {names old new : List (List ℕ)} → new ≡ interned old names → Adds names old new
 adds_these e = record { table = λ h. e }
@@ -226,7 +226,7 @@ distinct_front (x ∷ xs) ys d = (all_front (λ y. bytes_eq x y ≡ false) xs ys
 pub itself : {texts : List (List ℕ)} → IsDistinctTexts texts → IsLater texts texts
 itself {texts} d = record { gains = gains_none texts; distinct = d }
 
-pub later_at : {names old new : List (List ℕ)} → Gains old new → IsDistinctTexts new → AddsSome names old new → HasAll functions old → IsLater new (interned old names)
+pub later_at : {names old new : List (List ℕ)} → Gains old new → IsDistinctTexts new → AddsSome names old new → HasAll known_words old → IsLater new (interned old names)
 later_at {names} {old} {new} g d a h = record { gains = a.gains h; distinct = interned_distinct old names (distinct_front old g.added (subst IsDistinctTexts g.behind d)) }
 
 -- ---- texts that are made one behind the other
@@ -240,3 +240,14 @@ gains_this mid new t e = subst (Gains mid) (sym e) (gains_text mid t)
 pub has_added : {X F : Type 0} (names old new : List (List ℕ)) (r : Result X F) → OnOk r (new ≡ interned old names) → OnOk r (HasAll names new)
 has_added names old new (Ok x) e = subst (HasAll names) (sym e) (interned_has old names)
 has_added names old new (Err f) e = tt
+
+-- ---- where no text was added before
+
+pub kept_some : {names old new : List (List ℕ)} → Keeps old new → AddsSome names old new
+kept_some {names} {old} {new} k = record { gains = λ h. subst (λ z. Gains z (interned old names)) (sym (k.same h)) (interned_gains old names) }
+
+pub kept_then_some : {names old mid new : List (List ℕ)} → Keeps old mid → AddsSome names mid new → AddsSome names old new
+kept_then_some {names} {old} {mid} {new} k a = record { gains = λ h. subst (λ z. Gains new (interned z names)) (k.same h) (a.gains (subst (HasAll known_words) (sym (k.same h)) h)) }
+
+pub kept_then_owes : {ts us : List Token} {i j : ℕ} {old mid new : List (List ℕ)} → Keeps old mid → Owes i ts mid j us new → Owes i ts old j us new
+kept_then_owes {ts} {us} {i} {j} {old} {mid} {new} k o = record { table = λ h. ap (λ z. interned z (rule_names i ts)) (sym (k.same h)) ∙ o.table (subst (HasAll known_words) (sym (k.same h)) h) }

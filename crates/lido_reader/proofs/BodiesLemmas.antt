@@ -16,6 +16,10 @@ use Rattle.lido_computations.specs.Phrases.{Then, IsName, word}
 use Rattle.lido_computations.specs.Places.{absent, present, IsPlace, named, by_word, context, in_targets}
 use Rattle.lido_computations.specs.Expressions.{infix_of, is_at_least, follows_primary}
 use Rattle.lido_computations.specs.Computations.{is_arrow_kind, continues_computation, IsTarget, attribute, chain_start, IsComputation, assignment, output}
+use Rattle.lido_computations.specs.Messages.{IsRuleComputation, usual, message, conditional, IsComputationIn}
+use Rattle.lido_computations.specs.declared.messages.MessageWords.{MessageWords}
+use Rattle.lido_computations.specs.declared.owners.Owner.{Owner}
+use Rattle.lido_computations.specs.declared.owners.Owner.TheVariants as owner
 use Rattle.lido_reader.specs.Items.{AreComputations, IsBody, IsFurtherComputation, Repeats, is_not_end, is_not_end_kind}
 use Rattle.lido_computations.proofs.PhrasesLemmas.{Completable, Stops, sees_completable, sees_finds, sees_said, sees_some}
 use Rattle.lido_reader.proofs.PartsLemmas.{finish, then_finish, Steps, go_on, seen_goes, seen_stops, present_leads, absent_finds, optional_completable}
@@ -42,9 +46,18 @@ computation_starts : (texts : List (List ℕ)) (n : ℕ) (ts us : List Token) (x
 computation_starts texts n ts us x (assignment p) = target_starts ts p.between p.value p.first
 computation_starts texts n ts us x (output p) = seen_goes (kind.Key key.PtgOut) is_not_end_kind refl ts p.between p.value p.first
 
-pub computation_steps : (texts : List (List ℕ)) → Steps (IsFurtherComputation (IsComputation texts)) is_not_end nothing is_not_end
-computation_steps texts = record {
-  starting = λ y z ts us p. computation_starts texts y.1 ts p.between p.value p.first;
+rule_starts : (words : MessageWords) (texts : List (List ℕ)) (n : ℕ) (ts us : List Token) (x : Comp × ℕ) → IsRuleComputation words texts n ts x us → GoesOn is_not_end ts
+rule_starts words texts n ts us x (usual p) = computation_starts texts n ts us x p
+rule_starts words texts n ts us x (message p) = seen_goes (kind.Word words.message) is_not_end_kind refl ts p.between p.value p.first
+rule_starts words texts n ts us x (conditional p) = seen_goes (kind.Key key.If) is_not_end_kind refl ts p.between p.value p.first
+
+starts_in : (words : MessageWords) (texts : List (List ℕ)) (o : Owner) (n : ℕ) (ts us : List Token) (x : Comp × ℕ) → IsComputationIn words texts o n ts x us → GoesOn is_not_end ts
+starts_in words texts owner.Rule n ts us x p = rule_starts words texts n ts us x p
+starts_in words texts owner.Symbol n ts us x p = computation_starts texts n ts us x p.usual
+
+pub computation_steps : (words : MessageWords) (texts : List (List ℕ)) (o : Owner) → Steps (IsFurtherComputation (IsComputationIn words texts o)) is_not_end nothing is_not_end
+computation_steps words texts o = record {
+  starting = λ y z ts us p. starts_in words texts o y.1 ts p.between p.value p.first;
   continues = λ t h. h;
   apart = λ t h g. cc;
   wider = λ t g. cc;

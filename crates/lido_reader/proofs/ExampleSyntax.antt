@@ -26,9 +26,14 @@ use Rattle.lido_computations.specs.Expressions as grammar
 use Rattle.lido_computations.specs.Expressions.{IsExpr, IsPrimary, unary_level}
 use Rattle.lido_computations.specs.Computations as computations
 use Rattle.lido_computations.specs.Computations.{IsComputation, IsValue, IsTarget}
+use Rattle.lido_computations.specs.Messages as messages
+use Rattle.lido_computations.specs.Messages.{IsComputationIn}
+use Rattle.lido_computations.specs.declared.messages.MessageWords.{MessageWords}
+use Rattle.lido_computations.specs.declared.owners.Owner.{Owner}
+use Rattle.lido_computations.specs.declared.owners.Owner.TheVariants as owner
 use Rattle.lido_reader.specs.Items as items
 use Rattle.lido_reader.specs.Items.{Repeats, AreNames, AreDecls, IsTerminalType, IsFurtherElement, IsBody, IsRule, IsFurtherItem, no_items, called_in}
-use Rattle.lido_reader.specs.Specification.{IsSpecOf}
+use Rattle.lido_reader.specs.Specification.{IsSpecOf, words_in}
 use Rattle.lido_reader.proofs.ExampleTree.{text, named, ADD, val, num, r_top, top, term, r_add, plus, r_num, mark, word, keyword, head, ending, bare_tokens, indexed_tokens, attr_tokens, term_tokens, out_tokens, addition_tokens, sum_tokens, number_tokens, top_tokens, add_tokens, num_tokens, spelled, bare_place, indexed_place, bare, indexed, out_comp, sum_comp, num_comp, rule_at, top_rule, add_rule, num_rule, attr_decls, with_attr, with_rules, spec}
 
 -- ---- how phrases are put together
@@ -138,17 +143,17 @@ symbol_is_next : (found : List Element) (from to id : ℕ) (us : List Token)
 symbol_is_next found from to id us = followed _ _ (items.symbol (phrases.word refl)) done
 
 -- a rule with a name of 4 letters, by its right side and its body
-is_rule : (called : ℕ → StrId) (One : ℕ → List Token → Comp × ℕ → List Token → Type 0) (from name left letters k n : ℕ)
+is_rule : (called : ℕ → StrId) (One : Owner → ℕ → List Token → Comp × ℕ → List Token → Type 0) (from name left letters k n : ℕ)
     → (right : List Element) (body : List Comp × ℕ) (ts us vs : List Token)
-    → Repeats IsFurtherElement [] ts right us → IsBody One n us body vs
+    → Repeats IsFurtherElement [] ts right us → IsBody (One owner.Rule) n us body vs
     → IsRule called One k n (head from name left letters ++ ts) (rule_at from name left right body.0, body.1) vs
 is_rule called One from name left letters k n right body ts us vs elements p =
     let production = items.production (past refl (followed _ _ elements done)) in
     past refl (followed _ _ (places.present (past_name done)) (past refl (past_name (followed _ _ production (followed _ _ p done)))))
 
-module _ (called : ℕ → StrId) (texts : List (List ℕ)) where
+module _ (called : ℕ → StrId) (words : MessageWords) (texts : List (List ℕ)) where
   abbrev IsNext : Spec × ℕ → List Token → Spec × ℕ → List Token → Type 0
-  IsNext = IsFurtherItem called (IsComputation texts)
+  IsNext = IsFurtherItem called (IsComputationIn words texts)
 
   attr_is_next : (us : List Token) → IsNext (no_items, 0) (attr_tokens ++ us) (with_attr, 0) us
   attr_is_next us = items.attr (followed _ _ (past refl (followed _ _ decls (past refl done))) done)
@@ -165,17 +170,17 @@ module _ (called : ℕ → StrId) (texts : List (List ℕ)) where
       type = items.terminal_type (phrases.type_word refl refl) refl
 
   top_is_next : (us : List Token) → IsNext (with_rules [], 0) (top_tokens ++ us) (with_rules (top_rule ∷ []), 1) us
-  top_is_next us = items.rule (followed _ _ (is_rule called (IsComputation texts) 30 r_top top 3 1 0 _ _ _ _ us right body) done)
+  top_is_next us = items.rule (followed _ _ (is_rule called (IsComputationIn words texts) 30 r_top top 3 1 0 _ _ _ _ us right body) done)
     where
       right : Repeats IsFurtherElement [] (drop 5 top_tokens ++ us) top_rule.right (drop 6 top_tokens ++ us)
       right = items.next (symbol_is_next [] 49 53 term _) items.end
 
-      body : IsBody (IsComputation texts) 0 (drop 6 top_tokens ++ us) (out_comp ∷ [], 1) us
-      body = is_body (IsComputation texts) 0 54 61 89 (out_comp, 1) _ us (out_is_computation texts _)
+      body : IsBody (IsComputationIn words texts owner.Rule) 0 (drop 6 top_tokens ++ us) (out_comp ∷ [], 1) us
+      body = is_body (IsComputationIn words texts owner.Rule) 0 54 61 89 (out_comp, 1) _ us (messages.usual (out_is_computation texts _))
 
   add_is_next : slice_get texts ADD ≡ Some (codes "ADD") → (us : List Token)
       → IsNext (with_rules (top_rule ∷ []), 1) (add_tokens ++ us) (with_rules (top_rule ∷ add_rule ∷ []), 2) us
-  add_is_next add us = items.rule (followed _ _ (is_rule called (IsComputation texts) 96 r_add term 4 2 1 _ _ _ _ us right body) done)
+  add_is_next add us = items.rule (followed _ _ (is_rule called (IsComputationIn words texts) 96 r_add term 4 2 1 _ _ _ _ us right body) done)
     where
       literal : IsFurtherElement (take 1 add_rule.right) (drop 6 add_tokens ++ us) (take 2 add_rule.right) (drop 7 add_tokens ++ us)
       literal = followed _ _ (items.literal {id = text plus} (token refl)) done
@@ -184,17 +189,17 @@ module _ (called : ℕ → StrId) (texts : List (List ℕ)) where
       right =
           items.next (symbol_is_next [] 116 120 term _) (items.next literal (items.next (symbol_is_next (take 2 add_rule.right) 125 129 term _) items.end))
 
-      body : IsBody (IsComputation texts) 1 (drop 8 add_tokens ++ us) (sum_comp ∷ [], 2) us
-      body = is_body (IsComputation texts) 1 130 137 179 (sum_comp, 2) _ us (sum_is_computation texts add _)
+      body : IsBody (IsComputationIn words texts owner.Rule) 1 (drop 8 add_tokens ++ us) (sum_comp ∷ [], 2) us
+      body = is_body (IsComputationIn words texts owner.Rule) 1 130 137 179 (sum_comp, 2) _ us (messages.usual (sum_is_computation texts add _))
 
   num_is_next : (us : List Token) → IsNext (with_rules (top_rule ∷ add_rule ∷ []), 2) (num_tokens ++ us) (spec, 3) us
-  num_is_next us = items.rule (followed _ _ (is_rule called (IsComputation texts) 186 r_num term 4 3 2 _ _ _ _ us right body) done)
+  num_is_next us = items.rule (followed _ _ (is_rule called (IsComputationIn words texts) 186 r_num term 4 3 2 _ _ _ _ us right body) done)
     where
       right : Repeats IsFurtherElement [] (drop 5 num_tokens ++ us) num_rule.right (drop 6 num_tokens ++ us)
       right = items.next (symbol_is_next [] 206 209 num _) items.end
 
-      body : IsBody (IsComputation texts) 2 (drop 6 num_tokens ++ us) (num_comp ∷ [], 3) us
-      body = is_body (IsComputation texts) 2 210 217 234 (num_comp, 3) _ us (num_is_computation texts _)
+      body : IsBody (IsComputationIn words texts owner.Rule) 2 (drop 6 num_tokens ++ us) (num_comp ∷ [], 3) us
+      body = is_body (IsComputationIn words texts owner.Rule) 2 210 217 234 (num_comp, 3) _ us (messages.usual (num_is_computation texts _))
 
   -- all items, one behind the other
   are_items : slice_get texts ADD ≡ Some (codes "ADD") → Repeats IsNext (no_items, 0) spelled (spec, 3) []
@@ -204,4 +209,4 @@ module _ (called : ℕ → StrId) (texts : List (List ℕ)) where
 
 -- the tokens are the specification, where the text of ADD stands in its place
 pub is_spec : (texts : List (List ℕ)) → slice_get texts ADD ≡ Some (codes "ADD") → IsSpecOf texts spelled spec
-is_spec texts add = followed _ _ (are_items (called_in texts) texts add) done
+is_spec texts add = followed _ _ (are_items (called_in texts) (words_in texts) texts add) done

@@ -23,7 +23,7 @@ use Rattle.lido_syntax.specs.declared.spec.Target.TheVariants as target
 use Rattle.lido_syntax.specs.declared.spec.RuleItem.{RuleItem}
 use Rattle.lido_syntax.specs.declared.spec.Spec.{Spec}
 
--- ---- the names, by the ids of their texts; those below 18 are names of functions
+-- ---- the names, by the ids of their texts; those below 23 are known words
 
 abbrev pub text : ℕ → StrId
 text id = record { 0 = id }
@@ -35,31 +35,31 @@ abbrev pub ADD : ℕ
 ADD = 8
 
 abbrev pub val : ℕ
-val = 18
+val = 23
 
 abbrev pub num : ℕ
-num = 19
+num = 24
 
 abbrev pub r_top : ℕ
-r_top = 20
+r_top = 25
 
 abbrev pub top : ℕ
-top = 21
+top = 26
 
 abbrev pub term : ℕ
-term = 22
+term = 27
 
 abbrev pub numb : ℕ
-numb = 23
+numb = 28
 
 abbrev pub r_add : ℕ
-r_add = 24
+r_add = 29
 
 abbrev pub plus : ℕ
-plus = 25
+plus = 30
 
 abbrev pub r_num : ℕ
-r_num = 26
+r_num = 31
 
 -- ---- the tokens
 
@@ -178,7 +178,7 @@ num_comp = record {
 
 -- a rule with a name of 4 letters
 abbrev pub rule_at : ℕ → ℕ → ℕ → List Element → List Comp → RuleItem
-rule_at from name left right body = record { at = from; name = text name; left = named (from + 11) left; list = false; right = right; body = body }
+rule_at from name left right body = record { at = from + 5; name = text name; left = named (from + 11) left; list = false; right = right; body = body }
 
 abbrev pub top_rule : RuleItem
 top_rule = rule_at 30 r_top top (element.Symbol (named 49 term) ∷ []) (out_comp ∷ [])

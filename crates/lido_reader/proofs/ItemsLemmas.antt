@@ -11,6 +11,7 @@ use Rattle.lido_lexer.specs.declared.token.TokenKind.{TokenKind}
 use Rattle.lido_lexer.specs.declared.token.TokenKind.TheVariants as kind
 use Rattle.lido_syntax.specs.declared.spec.Comp.{Comp}
 use Rattle.lido_syntax.specs.declared.spec.Spec.{Spec}
+use Rattle.lido_computations.specs.declared.owners.Owner.{Owner}
 use Rattle.lido_reader.specs.Items.{IsSymbolHead, class, plain, IsRuleItem, IsSymbolItem, IsAttrItem, IsTermItem, IsChainItem, IsFurtherItem, rule, symbol, attr, term, chain, begins_item, begins_item_kind}
 use Rattle.lido_computations.proofs.PhrasesLemmas.{chosen, sees_said, sees_some}
 use Rattle.lido_reader.proofs.PartsLemmas.{Steps, seen_goes, seen_apart, unseen_head}
@@ -31,7 +32,7 @@ Lacks k ts = (t : Token) (us : List Token) → Keys k ts t us → ⊥
 lacking : {C : Type 0} (k : Keyword) (ts ws us : List Token) (t : Token) → Lacks k ts → SameHead ts ws → Keys k ws t us → C
 lacking k ts ws us t none s n = absurd (unseen_head (Keys k) (sees_said (kind.Key k)) (sees_some (kind.Key k)) ts ws none s t us n)
 
-module _ (called : ℕ → StrId) (One : ℕ → List Token → Comp × ℕ → List Token → Type 0) (found : Spec × ℕ) where
+module _ (called : ℕ → StrId) (One : Owner → ℕ → List Token → Comp × ℕ → List Token → Type 0) (found : Spec × ℕ) where
   abbrev Item : List Token → Spec × ℕ → List Token → Type 0
   Item = IsFurtherItem called One found
 
@@ -46,7 +47,7 @@ module _ (called : ℕ → StrId) (One : ℕ → List Token → Comp × ℕ → 
   pub rule_leads : (ts us : List Token) (t : Token) → Keys key.Rule ts t us → Leads (IsRuleItem called One found) nothing ts Item nothing ts
   rule_leads ts us t n = chosen (IsRuleItem called One found) Item nothing ts (λ us vs x p. rule p) (rule_from ts us t n)
 
-  pub attr_from : (ts us : List Token) (t : Token) → Keys key.Attr ts t us → (ws vs : List Token) (x : Spec × ℕ) → SameHead ts ws → Item ws x vs → IsAttrItem called One found ws x vs ⊎ GoesOn nothing vs
+  pub attr_from : (ts us : List Token) (t : Token) → Keys key.Attr ts t us → (ws vs : List Token) (x : Spec × ℕ) → SameHead ts ws → Item ws x vs → IsAttrItem found ws x vs ⊎ GoesOn nothing vs
   attr_from ts us t n ws vs x s (attr p) = inl p
   attr_from ts us t n ws vs x s (symbol p) = absurd (head_apart key.Attr (λ e. cc) (λ e. cc) ts us ws p.first.between t p.first.value n s p.first.first)
   attr_from ts us t n ws vs x s (rule p) = absurd (seen_apart (kind.Key key.Attr) (kind.Key key.Rule) (λ e. cc) ts us ws p.first.between t p.first.value n s p.first.first)
@@ -54,10 +55,10 @@ module _ (called : ℕ → StrId) (One : ℕ → List Token → Comp × ℕ → 
   attr_from ts us t n ws vs x s (chain p) = absurd (seen_apart (kind.Key key.Attr) (kind.Key key.Chain) (λ e. cc) ts us ws p.first.between t p.first.value n s p.first.first)
 
   -- ATTR comes next
-  pub attr_leads : (ts us : List Token) (t : Token) → Keys key.Attr ts t us → Leads (IsAttrItem called One found) nothing ts Item nothing ts
-  attr_leads ts us t n = chosen (IsAttrItem called One found) Item nothing ts (λ us vs x p. attr p) (attr_from ts us t n)
+  pub attr_leads : (ts us : List Token) (t : Token) → Keys key.Attr ts t us → Leads (IsAttrItem found) nothing ts Item nothing ts
+  attr_leads ts us t n = chosen (IsAttrItem found) Item nothing ts (λ us vs x p. attr p) (attr_from ts us t n)
 
-  pub term_from : (ts us : List Token) (t : Token) → Keys key.Term ts t us → (ws vs : List Token) (x : Spec × ℕ) → SameHead ts ws → Item ws x vs → IsTermItem called One found ws x vs ⊎ GoesOn nothing vs
+  pub term_from : (ts us : List Token) (t : Token) → Keys key.Term ts t us → (ws vs : List Token) (x : Spec × ℕ) → SameHead ts ws → Item ws x vs → IsTermItem found ws x vs ⊎ GoesOn nothing vs
   term_from ts us t n ws vs x s (term p) = inl p
   term_from ts us t n ws vs x s (symbol p) = absurd (head_apart key.Term (λ e. cc) (λ e. cc) ts us ws p.first.between t p.first.value n s p.first.first)
   term_from ts us t n ws vs x s (rule p) = absurd (seen_apart (kind.Key key.Term) (kind.Key key.Rule) (λ e. cc) ts us ws p.first.between t p.first.value n s p.first.first)
@@ -65,10 +66,10 @@ module _ (called : ℕ → StrId) (One : ℕ → List Token → Comp × ℕ → 
   term_from ts us t n ws vs x s (chain p) = absurd (seen_apart (kind.Key key.Term) (kind.Key key.Chain) (λ e. cc) ts us ws p.first.between t p.first.value n s p.first.first)
 
   -- TERM comes next
-  pub term_leads : (ts us : List Token) (t : Token) → Keys key.Term ts t us → Leads (IsTermItem called One found) nothing ts Item nothing ts
-  term_leads ts us t n = chosen (IsTermItem called One found) Item nothing ts (λ us vs x p. term p) (term_from ts us t n)
+  pub term_leads : (ts us : List Token) (t : Token) → Keys key.Term ts t us → Leads (IsTermItem found) nothing ts Item nothing ts
+  term_leads ts us t n = chosen (IsTermItem found) Item nothing ts (λ us vs x p. term p) (term_from ts us t n)
 
-  pub chain_from : (ts us : List Token) (t : Token) → Keys key.Chain ts t us → (ws vs : List Token) (x : Spec × ℕ) → SameHead ts ws → Item ws x vs → IsChainItem called One found ws x vs ⊎ GoesOn nothing vs
+  pub chain_from : (ts us : List Token) (t : Token) → Keys key.Chain ts t us → (ws vs : List Token) (x : Spec × ℕ) → SameHead ts ws → Item ws x vs → IsChainItem found ws x vs ⊎ GoesOn nothing vs
   chain_from ts us t n ws vs x s (chain p) = inl p
   chain_from ts us t n ws vs x s (symbol p) = absurd (head_apart key.Chain (λ e. cc) (λ e. cc) ts us ws p.first.between t p.first.value n s p.first.first)
   chain_from ts us t n ws vs x s (rule p) = absurd (seen_apart (kind.Key key.Chain) (kind.Key key.Rule) (λ e. cc) ts us ws p.first.between t p.first.value n s p.first.first)
@@ -76,8 +77,8 @@ module _ (called : ℕ → StrId) (One : ℕ → List Token → Comp × ℕ → 
   chain_from ts us t n ws vs x s (term p) = absurd (seen_apart (kind.Key key.Chain) (kind.Key key.Term) (λ e. cc) ts us ws p.first.between t p.first.value n s p.first.first)
 
   -- CHAIN comes next
-  pub chain_leads : (ts us : List Token) (t : Token) → Keys key.Chain ts t us → Leads (IsChainItem called One found) nothing ts Item nothing ts
-  chain_leads ts us t n = chosen (IsChainItem called One found) Item nothing ts (λ us vs x p. chain p) (chain_from ts us t n)
+  pub chain_leads : (ts us : List Token) (t : Token) → Keys key.Chain ts t us → Leads (IsChainItem found) nothing ts Item nothing ts
+  chain_leads ts us t n = chosen (IsChainItem found) Item nothing ts (λ us vs x p. chain p) (chain_from ts us t n)
 
   pub symbol_from : (ts : List Token) → Lacks key.Rule ts → Lacks key.Attr ts → Lacks key.Term ts → Lacks key.Chain ts → (ws vs : List Token) (x : Spec × ℕ) → SameHead ts ws → Item ws x vs → IsSymbolItem called One found ws x vs ⊎ GoesOn nothing vs
   symbol_from ts r a t c ws vs x s (symbol p) = inl p
@@ -90,14 +91,14 @@ module _ (called : ℕ → StrId) (One : ℕ → List Token → Comp × ℕ → 
   pub symbol_leads : (ts : List Token) → Lacks key.Rule ts → Lacks key.Attr ts → Lacks key.Term ts → Lacks key.Chain ts → Leads (IsSymbolItem called One found) nothing ts Item nothing ts
   symbol_leads ts r a t c = chosen (IsSymbolItem called One found) Item nothing ts (λ us vs x p. symbol p) (symbol_from ts r a t c)
 
-item_starts : (called : ℕ → StrId) (One : ℕ → List Token → Comp × ℕ → List Token → Type 0) (y z : Spec × ℕ) (ts us : List Token) → IsFurtherItem called One y ts z us → GoesOn begins_item ts
+item_starts : (called : ℕ → StrId) (One : Owner → ℕ → List Token → Comp × ℕ → List Token → Type 0) (y z : Spec × ℕ) (ts us : List Token) → IsFurtherItem called One y ts z us → GoesOn begins_item ts
 item_starts called One y z ts us (symbol p) = head_goes ts p.first.between p.first.value p.first.first
 item_starts called One y z ts us (rule p) = seen_goes (kind.Key key.Rule) begins_item_kind refl ts p.first.between p.first.value p.first.first
 item_starts called One y z ts us (attr p) = seen_goes (kind.Key key.Attr) begins_item_kind refl ts p.first.between p.first.value p.first.first
 item_starts called One y z ts us (term p) = seen_goes (kind.Key key.Term) begins_item_kind refl ts p.first.between p.first.value p.first.first
 item_starts called One y z ts us (chain p) = seen_goes (kind.Key key.Chain) begins_item_kind refl ts p.first.between p.first.value p.first.first
 
-pub item_steps : (called : ℕ → StrId) (One : ℕ → List Token → Comp × ℕ → List Token → Type 0) → Steps (IsFurtherItem called One) begins_item nothing begins_item
+pub item_steps : (called : ℕ → StrId) (One : Owner → ℕ → List Token → Comp × ℕ → List Token → Type 0) → Steps (IsFurtherItem called One) begins_item nothing begins_item
 item_steps called One = record { starting = item_starts called One; continues = λ t h. h; apart = λ t h g. cc; wider = λ t g. cc }
 
 pub no_item_end : (ts : List Token) → ts ≡ [] → IsTrue false ↔ GoesOn begins_item ts

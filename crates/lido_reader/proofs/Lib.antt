@@ -13,6 +13,7 @@ pub mod SureLemmas
 pub mod SurePlacesLemmas
 pub mod SureExpressionsLemmas
 pub mod SureComputationsLemmas
+pub mod SureMessagesLemmas
 pub mod SureItemsLemmas
 pub mod ExampleTree
 pub mod ExampleSyntax

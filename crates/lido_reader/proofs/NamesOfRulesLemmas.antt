@@ -16,11 +16,11 @@ use Rattle.lido_reader.proofs.PartsLemmas.{go_on, read_whole, present_leads, abs
 word_goes : (ts us : List Token) (n : Name) → IsName ts n us → GoesOn is_word ts
 word_goes ts us n (word e) = rw e refl
 
-pub named : (called : ℕ → StrId) (k : ℕ) (ts us : List Token) (n : Name) → IsName ts n us → Finds (IsRuleName called k) is_word ts n.id us
-named called k ts us n p = read_whole (go_on (present_leads IsName (λ name. Done name.id) (called k) is_word ts (word_goes ts us n p)) (name_finds nothing ts us n p))
+pub named : (called : ℕ → StrId) (k at : ℕ) (ts us : List Token) (n : Name) → IsName ts n us → Finds (IsRuleName called k at) is_word ts n us
+named called k at ts us n p = read_whole (go_on (present_leads IsName (λ name. Done name) (record { at = at; id = called k }) is_word ts (word_goes ts us n p)) (name_finds nothing ts us n p))
 
-pub unnamed : (called : ℕ → StrId) (k : ℕ) (id : StrId) (ts : List Token) → called k ≡ id → ((n : Name) (us : List Token) → IsName ts n us → ⊥) → Finds (IsRuleName called k) is_word ts id ts
-unnamed called k id ts e none = subst (λ z. Finds (IsRuleName called k) is_word ts z ts) e (absent_finds IsName (λ name. Done name.id) (called k) is_word name_said name_some ts none)
+pub unnamed : (called : ℕ → StrId) (k at : ℕ) (id : StrId) (ts : List Token) → called k ≡ id → ((n : Name) (us : List Token) → IsName ts n us → ⊥) → Finds (IsRuleName called k at) is_word ts (record { at = at; id = id }) ts
+unnamed called k at id ts e none = subst (λ z. Finds (IsRuleName called k at) is_word ts (record { at = at; id = z }) ts) e (absent_finds IsName (λ name. Done name) (record { at = at; id = called k }) is_word name_said name_some ts none)
 
 -- a colon is no name
 pub colon_names : {X Y : Type 0} (Rest : Y → Token → List Token → X → List Token → Type 0) (c : Token → Bool) → Stops is_word c (λ name. Then (Signs sign.Colon) (Rest name))

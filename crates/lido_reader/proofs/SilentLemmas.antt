@@ -1,5 +1,5 @@
 -- No phrase within an item has a RULE, so no name of a rule is added while one is read.
-use Rattle.std.proofs.Common.{◌≡◌, ℕ, ◌+◌, suc, Bool, false, List, [], ◌∷◌, ◌++◌, length, Option, Some, None, refl, ap, sym, ◌∙◌, subst, arith}
+use Rattle.std.proofs.Common.{◌≡◌, ℕ, pos, ◌+◌, suc, Bool, false, List, [], ◌∷◌, ◌++◌, length, Option, Some, None, refl, ap, sym, ◌∙◌, subst, arith}
 use Rattle.lido_base.specs.Reading.{Finds, nothing}
 use Rattle.lido_base.specs.declared.ids.StrId.{StrId}
 use Rattle.lido_lexer.specs.Seen.{Sees, token, Signs, Keys}
@@ -22,6 +22,10 @@ use Rattle.lido_computations.specs.Places.{Optional, absent, present, AreListed,
 use Rattle.lido_computations.specs.Expressions.{prefix_of, infix_of, constant_of, unary_level, IsExpr, operands, prefix, primary, AreOperands, no_operator, operator, IsPrimary, constant, ptg_null, parenthesized, read, including, constituents, terminal, call, choice, order, AreArguments, none, some, AreSome, first, AreFurther, last, further}
 use Rattle.lido_computations.specs.Computations as grammar
 use Rattle.lido_computations.specs.Computations.{IsDependency, AreMoreDependencies, AreSomeDependencies, AreDependencies, AreAfter, IsTarget, attribute, chain_start, IsComputation, assignment, output}
+use Rattle.lido_computations.specs.Messages.{IsSeverity, severity_word, IsPlacing, IsMessageOf, IsRuleComputation, usual, message, conditional, IsComputationIn}
+use Rattle.lido_computations.specs.declared.messages.MessageWords.{MessageWords}
+use Rattle.lido_computations.specs.declared.owners.Owner.{Owner}
+use Rattle.lido_computations.specs.declared.owners.Owner.TheVariants as owner
 use Rattle.lido_reader.specs.Items as items
 use Rattle.lido_reader.specs.Items.{Repeats, IsTerminalType, terminal_type, AreNames, IsSide, unsaid, synt, inh, IsDecl, AreDecls, IsAttr, IsTerm, IsChain, IsElement, literal, IsRight, production, listof, AreInherited, IsSymbolHead, class, plain, IsBody, IsAbout, declaring, computing, IsSymbol, IsRule, IsRuleName, IsFurtherItem}
 use Rattle.lido_reader.specs.Added.{is_rule_kind, first_names, rule_names}
@@ -239,8 +243,27 @@ computation texts n ts x us (assignment p) k =
 computation texts n ts x us (output p) k =
     (then_silent (sees_silent (kind.Key key.PtgOut) refl) (λ a. then_silent (sign_silent sign.ParenOpen) (λ b. then_silent (value_silent texts _) (λ c. then_silent (sign_silent sign.ParenClose) (λ d. then_silent (after_silent _) (λ e. done_silent)))))).same ts x us p k
 
-pub computation_silent : (texts : List (List ℕ)) (n : ℕ) → IsSilent (IsComputation texts n)
-computation_silent texts n = record { same = computation texts n }
+-- ---- messages
+
+placing_silent : (words : MessageWords) → IsSilent (IsPlacing words)
+placing_silent words = then_silent (sign_silent sign.Comma) (λ a. then_silent (sees_silent (kind.Int (pos 0)) refl) (λ b. then_silent (sign_silent sign.Comma) (λ c. then_silent (sees_silent (kind.Word words.coordref) refl) (λ d. sign_silent sign.ParenClose))))
+
+severity : (words : MessageWords) (ts : List Token) (x : _) (us : List Token) → IsSeverity words ts x us → (k : ℕ) → rule_names k ts ≡ rule_names k us
+severity words ts x us (severity_word {t = t} {id = id} e d) k = seen (kind.Word id) refl ts t us (token e) k
+
+message_silent : (words : MessageWords) (texts : List (List ℕ)) (s : _) → IsSilent (IsMessageOf words texts s)
+message_silent words texts s = then_silent (sign_silent sign.ParenOpen) (λ a. then_silent (record { same = severity words }) (λ b. then_silent (sign_silent sign.Comma) (λ c. then_silent (value_silent texts s) (λ d. then_silent (placing_silent words) (λ e. done_silent)))))
+
+rule_computation : (words : MessageWords) (texts : List (List ℕ)) (n : ℕ) (ts : List Token) (x : Comp × ℕ) (us : List Token) → IsRuleComputation words texts n ts x us → (k : ℕ) → rule_names k ts ≡ rule_names k us
+rule_computation words texts n ts x us (usual p) k = computation texts n ts x us p k
+rule_computation words texts n ts x us (message p) k = (then_silent (sees_silent (kind.Word words.message) refl) (λ a. then_silent (message_silent words texts _) (λ b. then_silent (after_silent _) (λ c. done_silent)))).same ts x us p k
+rule_computation words texts n ts x us (conditional p) k =
+    (then_silent (sees_silent (kind.Key key.If) refl) (λ a. then_silent (sign_silent sign.ParenOpen) (λ b. then_silent (value_silent texts _) (λ c. then_silent (sign_silent sign.Comma) (λ d. then_silent (sees_silent (kind.Word words.message) refl) (λ e.
+    then_silent (message_silent words texts _) (λ f. then_silent (sign_silent sign.ParenClose) (λ g. then_silent (after_silent _) (λ h. done_silent))))))))).same ts x us p k
+
+computation_in : (words : MessageWords) (texts : List (List ℕ)) (o : Owner) (n : ℕ) → IsSilent (IsComputationIn words texts o n)
+computation_in words texts owner.Rule n = record { same = rule_computation words texts n }
+computation_in words texts owner.Symbol n = record { same = λ ts x us p. computation texts n ts x us p.usual }
 
 -- ---- types and declarations
 
@@ -290,19 +313,19 @@ head ts x us (plain p) k = (then_silent (sees_silent (kind.Key key.Symbol) refl)
 inherited_silent : IsSilent AreInherited
 inherited_silent = optional_silent (then_silent (sees_silent (kind.Key key.Inherits) refl) (λ a. names_silent)) []
 
-module _ (called : ℕ → StrId) (texts : List (List ℕ)) where
-  abbrev One : ℕ → List Token → Comp × ℕ → List Token → Type 0
-  One = IsComputation texts
+module _ (called : ℕ → StrId) (words : MessageWords) (texts : List (List ℕ)) where
+  abbrev One : Owner → ℕ → List Token → Comp × ℕ → List Token → Type 0
+  One = IsComputationIn words texts
 
-  body_silent : (n : ℕ) → IsSilent (IsBody One n)
-  body_silent n = then_silent (optional_silent (then_silent (sees_silent (kind.Key key.Compute) refl) (λ a. repeats_silent (λ f. then_silent (computation_silent texts f.1) (λ b. then_silent (sign_silent sign.Semicolon) (λ c. done_silent))) ([], n))) ([], n))
+  body_silent : (o : Owner) (n : ℕ) → IsSilent (IsBody (One o) n)
+  body_silent o n = then_silent (optional_silent (then_silent (sees_silent (kind.Key key.Compute) refl) (λ a. repeats_silent (λ f. then_silent (computation_in words texts o f.1) (λ b. then_silent (sign_silent sign.Semicolon) (λ c. done_silent))) ([], n))) ([], n))
       (λ a. then_silent (sees_silent (kind.Key key.End) refl) (λ b. then_silent (sign_silent sign.Semicolon) (λ c. done_silent)))
 
-  about : (h : _) (a : Name) (n : ℕ) (ts : List Token) (x : _) (us : List Token) → IsAbout One h a n ts x us → (k : ℕ) → rule_names k ts ≡ rule_names k us
+  about : (h : _) (a : Name) (n : ℕ) (ts : List Token) (x : _) (us : List Token) → IsAbout (One owner.Symbol) h a n ts x us → (k : ℕ) → rule_names k ts ≡ rule_names k us
   about h a n ts x us (declaring p) k = (then_silent (more_silent name_silent (a ∷ [])) (λ b. then_silent (sign_silent sign.Colon) (λ c. then_silent decls_silent (λ d. then_silent (sign_silent sign.Semicolon) (λ e. done_silent))))).same ts x us p k
-  about h a n ts x us (computing p) k = (then_silent inherited_silent (λ b. then_silent (body_silent n) (λ c. done_silent))).same ts x us p k
+  about h a n ts x us (computing p) k = (then_silent inherited_silent (λ b. then_silent (body_silent owner.Symbol n) (λ c. done_silent))).same ts x us p k
 
-  symbol_silent : (n : ℕ) → IsSilent (IsSymbol One n)
+  symbol_silent : (n : ℕ) → IsSilent (IsSymbol (One owner.Symbol) n)
   symbol_silent n = then_silent (record { same = head }) (λ h. then_silent name_silent (λ a. record { same = about h a n }))
 
   -- a rule adds what it is called, and nothing behind that
@@ -312,9 +335,9 @@ module _ (called : ℕ → StrId) (texts : List (List ℕ)) where
       begun : (ts us : List Token) (t : Token) → Keys key.Rule ts t us → rule_names k ts ≡ first_names k ts ++ rule_names (k + 1) us
       begun ts us t (token e) = names_of_rule k t us (ap is_rule_kind e) ∙ ap (λ z. z ++ rule_names (k + 1) us) (sym (first_of_rule k t us (ap is_rule_kind e)))
 
-      rest : IsSilent {X = RuleItem × ℕ} (Then (IsRuleName called i) (λ name. Then (Signs sign.Colon) (λ colon. Then IsName (λ left. Then IsRight (λ right. Then (IsBody One n) (λ all.
-          Done (record { at = p.value.from; name = name; left = left; list = right.0; right = right.1; body = all.0 }, all.1)))))))
-      rest = then_silent (optional_silent (then_silent name_silent (λ a. done_silent)) (called i)) (λ a. then_silent (sign_silent sign.Colon) (λ b. then_silent name_silent (λ c. then_silent (record { same = right }) (λ d. then_silent (body_silent n) (λ e. done_silent)))))
+      rest : IsSilent {X = RuleItem × ℕ} (Then (IsRuleName called i p.value.from) (λ name. Then (Signs sign.Colon) (λ colon. Then IsName (λ left. Then IsRight (λ right. Then (IsBody (One owner.Rule) n) (λ all.
+          Done (record { at = name.at; name = name.id; left = left; list = right.0; right = right.1; body = all.0 }, all.1)))))))
+      rest = then_silent (optional_silent (then_silent name_silent (λ a. done_silent)) (record { at = p.value.from; id = called i })) (λ a. then_silent (sign_silent sign.Colon) (λ b. then_silent name_silent (λ c. then_silent (record { same = right }) (λ d. then_silent (body_silent owner.Rule n) (λ e. done_silent)))))
 
   -- an item that begins with another word adds nothing
   begun_by : (what : TokenKind) → is_rule_kind what ≡ false → (ts us vs : List Token) (t : Token) (k : ℕ) → Sees what ts t us → rule_names k ts ≡ rule_names k vs → rule_names k ts ≡ first_names k ts ++ rule_names k vs

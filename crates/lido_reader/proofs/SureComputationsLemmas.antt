@@ -116,7 +116,7 @@ module _ (number : ℕ) where
   dependencies_at ts x us (grammar.single {e = e} p) = only_by (grammar.single p) (to_single ts us e p) (single_sure.sure ts (e.0 ∷ [], e.1) us (both _ _ p done))
   dependencies_at ts x us (grammar.several p) = only_by (grammar.several p) (to_several ts us x p) (several_sure.sure ts x us p)
 
-  after_sure : IsSure (AreAfter number) continues_after
+  pub after_sure : IsSure (AreAfter number) continues_after
   after_sure = optional_sure ([], number) (λ ts y us p. seen_goes (kind.Sign sign.Arrow) (λ k. is_arrow_kind k || is_option_kind k) refl ts p.between p.value p.first)
       (lead_sure sees_sure (λ arrow. wide_sure after_wider (record { sure = dependencies_at })))
 

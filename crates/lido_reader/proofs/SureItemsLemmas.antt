@@ -19,10 +19,13 @@ use Rattle.lido_syntax.specs.declared.spec.Element.TheVariants as element
 use Rattle.lido_syntax.specs.declared.spec.SymbolItem.{SymbolItem}
 use Rattle.lido_syntax.specs.declared.spec.Spec.{Spec}
 use Rattle.lido_computations.specs.Phrases.{Done, Then, IsName, word, is_comma}
-use Rattle.lido_computations.specs.Computations.{IsComputation, continues_computation}
+use Rattle.lido_computations.specs.Computations.{continues_computation}
+use Rattle.lido_computations.specs.Messages.{IsComputationIn}
+use Rattle.lido_computations.specs.declared.owners.Owner.{Owner}
+use Rattle.lido_computations.specs.declared.owners.Owner.TheVariants as owner
 use Rattle.lido_reader.specs.Items as grammar
 use Rattle.lido_reader.specs.Items.{Repeats, IsTerminalType, AreNames, IsSide, is_side, is_side_kind, declared, IsDecl, IsFurtherDecl, AreDecls, continues_decls, IsAttr, IsTerm, IsChain, IsElement, IsFurtherElement, is_element, is_element_kind, IsFurtherListed, AreChoices, is_bar, is_bar_kind, IsRight, continues_right, called_in, is_word, AreInherited, continues_inherited, IsSymbolHead, IsRuleName, IsDeclaring, is_not_end, is_not_end_kind, IsFurtherComputation, AreComputations, IsBody, IsComputing, IsAbout, IsSymbol, IsRule, begins_item, no_items, IsRuleItem, IsSymbolItem, IsAttrItem, IsTermItem, IsChainItem, IsFurtherItem, IsSpec}
-use Rattle.lido_reader.specs.Specification.{IsSpecOf}
+use Rattle.lido_reader.specs.Specification.{IsSpecOf, words_in}
 use Rattle.lido_reader.proofs.PartsLemmas.{Steps, done_stops, done_stops_wide, repeat_stops, seen_goes}
 use Rattle.lido_reader.proofs.DeclarationsLemmas.{colon_stops, semicolon_stops, decl_steps}
 use Rattle.lido_reader.proofs.RightSidesLemmas.{element_steps, bar_steps, element_continues, bar_continues}
@@ -31,7 +34,7 @@ use Rattle.lido_reader.proofs.BodiesLemmas.{computation_steps, semicolon_computa
 use Rattle.lido_reader.proofs.SymbolsLemmas.{inherits_goes, comma_continues, declaring_goes, computing_apart, inherited_stops}
 use Rattle.lido_reader.proofs.ItemsLemmas.{head_apart, rule_from, attr_from, term_from, chain_from, symbol_from, item_steps}
 use Rattle.lido_reader.proofs.SureLemmas.{Rests, IsOnly, IsSure, sure_of, done_sure, then_sure, lead_sure, wide_sure, wider_by, only_by, optional_sure, sees_sure, sees_same, sees_apart, name_same, name_sure, type_same, type_sure, plain_more_sure, plain_separated_sure, repeats_sure}
-use Rattle.lido_reader.proofs.SureComputationsLemmas.{computation_sure}
+use Rattle.lido_reader.proofs.SureMessagesLemmas.{computation_in_sure}
 
 -- ---- declarations
 
@@ -152,8 +155,8 @@ head_at ts x us (grammar.plain p) = only_by (grammar.plain p) (to_plain ts us x 
 name_goes : (ts us : List Token) (n : Name) → IsName ts n us → GoesOn is_word ts
 name_goes ts us n (word e) = rw e refl
 
-rule_name_sure : (called : ℕ → StrId) (k : ℕ) → IsSure (IsRuleName called k) is_word
-rule_name_sure called k = optional_sure (called k) (λ ts y us p. name_goes ts p.between p.value p.first) (lead_sure name_sure (λ name. done_sure _))
+rule_name_sure : (called : ℕ → StrId) (k at : ℕ) → IsSure (IsRuleName called k at) is_word
+rule_name_sure called k at = optional_sure (record { at = at; id = called k }) (λ ts y us p. name_goes ts p.between p.value p.first) (lead_sure name_sure (λ name. done_sure _))
 
 declaring_sure : (head : ℕ × Bool) (first : Name) (n : ℕ) → IsSure (IsDeclaring head first n) nothing
 declaring_sure head first n = then_sure (colon_stops _ nothing) (plain_more_sure name_sure (first ∷ [])) (λ names. lead_sure sees_sure (λ colon. then_sure (semicolon_stops _ nothing) decls_sure (λ all. lead_sure sees_sure (λ semicolon. done_sure _))))
@@ -197,45 +200,46 @@ module _ (One : ℕ → List Token → Comp × ℕ → List Token → Type 0) (s
   symbol_sure : (n : ℕ) → IsSure (IsSymbol One n) nothing
   symbol_sure n = lead_sure (record { sure = head_at }) (λ head. lead_sure name_sure (λ first. record { sure = about_at head first n }))
 
-  module _ (called : ℕ → StrId) where
-    rule_sure : (k n : ℕ) → IsSure (IsRule called One k n) nothing
-    rule_sure k n = lead_sure sees_sure (λ word. then_sure (colon_names _ nothing) (rule_name_sure called k) (λ name. lead_sure sees_sure (λ colon. lead_sure name_sure (λ left.
-        then_sure (body_stops One n (λ what. is_element_kind what || is_bar_kind what) refl refl _ nothing) (record { sure = right_at }) (λ right. lead_sure (body_sure n) (λ all. done_sure _))))))
+module _ (One : Owner → ℕ → List Token → Comp × ℕ → List Token → Type 0) (steps : (o : Owner) → Steps (IsFurtherComputation (One o)) is_not_end nothing is_not_end)
+    (one : (o : Owner) (n : ℕ) → IsSure (One o n) continues_computation) (called : ℕ → StrId) where
+  rule_sure : (k n : ℕ) → IsSure (IsRule called One k n) nothing
+  rule_sure k n = lead_sure sees_sure (λ word. then_sure (colon_names _ nothing) (rule_name_sure called k word.from) (λ name. lead_sure sees_sure (λ colon. lead_sure name_sure (λ left.
+      then_sure (body_stops (One owner.Rule) n (λ what. is_element_kind what || is_bar_kind what) refl refl _ nothing) (record { sure = right_at }) (λ right. lead_sure (body_sure (One owner.Rule) (steps owner.Rule) (one owner.Rule) n) (λ all. done_sure _))))))
 
-    module _ (found : Spec × ℕ) where
-      rule_item_sure : IsSure (IsRuleItem called One found) nothing
-      rule_item_sure = lead_sure (rule_sure (length found.0.rules + 1) found.1) (λ item. done_sure _)
+  module _ (found : Spec × ℕ) where
+    rule_item_sure : IsSure (IsRuleItem called One found) nothing
+    rule_item_sure = lead_sure (rule_sure (length found.0.rules + 1) found.1) (λ item. done_sure _)
 
-      symbol_item_sure : IsSure (IsSymbolItem called One found) nothing
-      symbol_item_sure = lead_sure (symbol_sure found.1) (λ item. done_sure _)
+    symbol_item_sure : IsSure (IsSymbolItem called One found) nothing
+    symbol_item_sure = lead_sure (symbol_sure (One owner.Symbol) (steps owner.Symbol) (one owner.Symbol) found.1) (λ item. done_sure _)
 
-      attr_item_sure : IsSure (IsAttrItem called One found) nothing
-      attr_item_sure = lead_sure attr_sure (λ all. done_sure _)
+    attr_item_sure : IsSure (IsAttrItem found) nothing
+    attr_item_sure = lead_sure attr_sure (λ all. done_sure _)
 
-      term_item_sure : IsSure (IsTermItem called One found) nothing
-      term_item_sure = lead_sure term_sure (λ all. done_sure _)
+    term_item_sure : IsSure (IsTermItem found) nothing
+    term_item_sure = lead_sure term_sure (λ all. done_sure _)
 
-      chain_item_sure : IsSure (IsChainItem called One found) nothing
-      chain_item_sure = lead_sure chain_sure (λ all. done_sure _)
+    chain_item_sure : IsSure (IsChainItem found) nothing
+    chain_item_sure = lead_sure chain_sure (λ all. done_sure _)
 
-      -- the other items begin with other words
-      to_symbol : (ts us : List Token) (x : Spec × ℕ) → IsSymbolItem called One found ts x us → (y : Spec × ℕ) (vs : List Token) → IsFurtherItem called One found ts y vs → Rests nothing vs → IsSymbolItem called One found ts y vs
-      to_symbol ts us x p y vs m r =
-          let h = p.first.first in let ms = p.first.between in let head = p.first.value in
-          resting vs (symbol_from called One found ts (λ t us n. head_apart key.Rule (λ e. cc) (λ e. cc) ts us ts ms t head n (same_head ts) h) (λ t us n. head_apart key.Attr (λ e. cc) (λ e. cc) ts us ts ms t head n (same_head ts) h)
-          (λ t us n. head_apart key.Term (λ e. cc) (λ e. cc) ts us ts ms t head n (same_head ts) h) (λ t us n. head_apart key.Chain (λ e. cc) (λ e. cc) ts us ts ms t head n (same_head ts) h) ts vs y (same_head ts) m) r
+    -- the other items begin with other words
+    to_symbol : (ts us : List Token) (x : Spec × ℕ) → IsSymbolItem called One found ts x us → (y : Spec × ℕ) (vs : List Token) → IsFurtherItem called One found ts y vs → Rests nothing vs → IsSymbolItem called One found ts y vs
+    to_symbol ts us x p y vs m r =
+        let h = p.first.first in let ms = p.first.between in let head = p.first.value in
+        resting vs (symbol_from called One found ts (λ t us n. head_apart key.Rule (λ e. cc) (λ e. cc) ts us ts ms t head n (same_head ts) h) (λ t us n. head_apart key.Attr (λ e. cc) (λ e. cc) ts us ts ms t head n (same_head ts) h)
+        (λ t us n. head_apart key.Term (λ e. cc) (λ e. cc) ts us ts ms t head n (same_head ts) h) (λ t us n. head_apart key.Chain (λ e. cc) (λ e. cc) ts us ts ms t head n (same_head ts) h) ts vs y (same_head ts) m) r
 
-      item_at : (ts : List Token) (x : Spec × ℕ) (us : List Token) → IsFurtherItem called One found ts x us → IsOnly (IsFurtherItem called One found) nothing ts x us
-      item_at ts x us (grammar.rule p) = only_by (grammar.rule p) (λ y vs m r. resting vs (rule_from called One found ts p.first.between p.first.value p.first.first ts vs y (same_head ts) m) r) (rule_item_sure.sure ts x us p)
-      item_at ts x us (grammar.attr p) = only_by (grammar.attr p) (λ y vs m r. resting vs (attr_from called One found ts p.first.between p.first.value p.first.first ts vs y (same_head ts) m) r) (attr_item_sure.sure ts x us p)
-      item_at ts x us (grammar.term p) = only_by (grammar.term p) (λ y vs m r. resting vs (term_from called One found ts p.first.between p.first.value p.first.first ts vs y (same_head ts) m) r) (term_item_sure.sure ts x us p)
-      item_at ts x us (grammar.chain p) = only_by (grammar.chain p) (λ y vs m r. resting vs (chain_from called One found ts p.first.between p.first.value p.first.first ts vs y (same_head ts) m) r) (chain_item_sure.sure ts x us p)
-      item_at ts x us (grammar.symbol p) = only_by (grammar.symbol p) (to_symbol ts us x p) (symbol_item_sure.sure ts x us p)
+    item_at : (ts : List Token) (x : Spec × ℕ) (us : List Token) → IsFurtherItem called One found ts x us → IsOnly (IsFurtherItem called One found) nothing ts x us
+    item_at ts x us (grammar.rule p) = only_by (grammar.rule p) (λ y vs m r. resting vs (rule_from called One found ts p.first.between p.first.value p.first.first ts vs y (same_head ts) m) r) (rule_item_sure.sure ts x us p)
+    item_at ts x us (grammar.attr p) = only_by (grammar.attr p) (λ y vs m r. resting vs (attr_from called One found ts p.first.between p.first.value p.first.first ts vs y (same_head ts) m) r) (attr_item_sure.sure ts x us p)
+    item_at ts x us (grammar.term p) = only_by (grammar.term p) (λ y vs m r. resting vs (term_from called One found ts p.first.between p.first.value p.first.first ts vs y (same_head ts) m) r) (term_item_sure.sure ts x us p)
+    item_at ts x us (grammar.chain p) = only_by (grammar.chain p) (λ y vs m r. resting vs (chain_from called One found ts p.first.between p.first.value p.first.first ts vs y (same_head ts) m) r) (chain_item_sure.sure ts x us p)
+    item_at ts x us (grammar.symbol p) = only_by (grammar.symbol p) (to_symbol ts us x p) (symbol_item_sure.sure ts x us p)
 
-    spec_sure : IsSure (IsSpec called One) begins_item
-    spec_sure = then_sure (done_stops begins_item (λ (found : Spec × ℕ). found.0)) (repeats_sure (item_steps called One) (λ found. record { sure = item_at found }) (no_items, 0)) (λ found. done_sure found.0)
+  spec_sure : IsSure (IsSpec called One) begins_item
+  spec_sure = then_sure (done_stops begins_item (λ (found : Spec × ℕ). found.0)) (repeats_sure (item_steps called One) (λ found. record { sure = item_at found }) (no_items, 0)) (λ found. done_sure found.0)
 
 -- a list of tokens derives one specification at most
 pub one_spec : (texts : List (List ℕ)) → IsDistinctTexts texts → (tokens : List Token) (first second : Spec) → IsSpecOf texts tokens first → IsSpecOf texts tokens second → first ≡ second
 one_spec texts distinct tokens first second p q =
-    sym (((spec_sure (IsComputation texts) (computation_steps texts) (computation_sure texts distinct) (called_in texts)).sure tokens first [] p).only (λ g. g) second [] q (λ g. g)).0
+    sym (((spec_sure (IsComputationIn (words_in texts) texts) (computation_steps (words_in texts) texts) (computation_in_sure (words_in texts) texts distinct) (called_in texts)).sure tokens first [] p).only (λ g. g) second [] q (λ g. g)).0

@@ -8,7 +8,7 @@ use Rattle.std.proofs.lemmas.Option.{none-some}
 use Rattle.lido_base.specs.Texts.{with_text}
 use Rattle.lido_lexer.specs.Lexing.{Gains}
 use Rattle.lido_base.specs.declared.ids.StrId.{StrId}
-use Rattle.lido_reader.specs.Items.{called_in, rule_text}
+use Rattle.lido_reader.specs.Items.{called_in, id_in, rule_text}
 use Rattle.lido_reader.specs.Specification.{IsLater}
 use Rattle.lido_base.proofs.TextsLemmas.{same_place}
 use Rattle.lido_lexer.proofs.Reading.{gains_none, gains_more}
@@ -40,10 +40,14 @@ position_stands : (texts : List (List ℕ)) (t : List ℕ) (i : ℕ) → slice_g
 position_stands [] t i e = absurd (none-some _ e)
 position_stands (x ∷ xs) t i e = stands_first x xs t (bytes_eq t x) refl (position_stands xs t) i e
 
--- the id that a text has, is the one that the rule is called by
-pub called_later : (texts later : List (List ℕ)) (k : ℕ) (id : StrId) → IsLater texts later → slice_get texts id.0 ≡ Some (rule_text k) → called_in later k ≡ id
-called_later texts later k id l e =
-    let stands : slice_get later id.0 ≡ Some (rule_text k) = subst (λ z. slice_get z id.0 ≡ Some (rule_text k)) (sym l.gains.behind) (slice_get-kept texts l.gains.added id.0 (rule_text k) e) in
-    let first = position_stands later (rule_text k) id.0 stands in
-    let same : position_or_len (bytes_eq (rule_text k)) later ≡ id.0 = same_place later l.distinct (position_or_len (bytes_eq (rule_text k)) later) id.0 (rule_text k) first stands in
+-- the id that a text has is its id in later tables
+pub id_later : (texts later : List (List ℕ)) (text : List ℕ) (id : StrId) → IsLater texts later → slice_get texts id.0 ≡ Some text → id_in later text ≡ id
+id_later texts later text id l e =
+    let stands : slice_get later id.0 ≡ Some text = subst (λ z. slice_get z id.0 ≡ Some text) (sym l.gains.behind) (slice_get-kept texts l.gains.added id.0 text e) in
+    let first = position_stands later text id.0 stands in
+    let same : position_or_len (bytes_eq text) later ≡ id.0 = same_place later l.distinct (position_or_len (bytes_eq text) later) id.0 text first stands in
     ap (λ (i : ℕ). record { 0 = i }) same
+
+-- and so is that of what a rule is called
+pub called_later : (texts later : List (List ℕ)) (k : ℕ) (id : StrId) → IsLater texts later → slice_get texts id.0 ≡ Some (rule_text k) → called_in later k ≡ id
+called_later texts later k id l e = id_later texts later (rule_text k) id l e

@@ -10,9 +10,9 @@ use Rattle.lido_syntax.specs.declared.spec.Spec.{Spec}
 use Rattle.lido_computations.specs.declared.fault.ReadSpecFault.{ReadSpecFault}
 use Rattle.lido_computations.specs.declared.fault.ReadSpecFault.TheVariants.{Syntax, Memory}
 use Rattle.lido_computations.specs.Phrases.{place_of, RefusesAt}
-use Rattle.lido_computations.specs.Computations.{IsComputation}
+use Rattle.lido_computations.specs.Messages.{IsComputationIn}
 use Rattle.lido_reader.specs.Items.{Repeats, IsFurtherItem, IsSpec, begins_item, called_in, no_items}
-use Rattle.lido_reader.specs.Specification.{IsSpecOf, IsSpecification, IsReading}
+use Rattle.lido_reader.specs.Specification.{IsSpecOf, IsSpecification, IsReading, words_in}
 use Rattle.lido_computations.proofs.PhrasesLemmas.{leads_self}
 use Rattle.lido_reader.proofs.PartsLemmas.{go_past, stuck_in, read_whole, done_stops, finish}
 
@@ -75,10 +75,10 @@ module _ (texts : List (List ℕ)) (ts : List Token) (text_end : ℕ) where
   only_spec spec q only (Err Memory) p = absurd p
 
   abbrev Whole : List Token → Spec → List Token → Type 0
-  Whole = IsSpec (called_in texts) (IsComputation texts)
+  Whole = IsSpec (called_in texts) (IsComputationIn (words_in texts) texts)
 
   abbrev Items : List Token → Spec × ℕ → List Token → Type 0
-  Items = Repeats (IsFurtherItem (called_in texts) (IsComputation texts)) (no_items, 0)
+  Items = Repeats (IsFurtherItem (called_in texts) (IsComputationIn (words_in texts) texts)) (no_items, 0)
 
   whole_refused : (fault : ReadSpecFault) → RefusesAt Whole begins_item text_end ts fault → Gives (λ spec. spec) (IsReading texts ts text_end) Memory (Err fault)
   whole_refused (Syntax at) (bad, r, e) = inr (fault_reading (length r.taken) at (refuses_whole Whole begins_item ts bad r) (e ∙ ap (place_of text_end) (sym (ap (drop (length r.taken)) r.parts ∙ drop_front r.taken bad))))

@@ -1,5 +1,5 @@
--- Which texts a reader of specifications adds to the table: the names of the rules that have none, once the names of all functions
--- that operators and words stand for are there.
+-- Which texts a reader of specifications adds to the table: the names of the rules that have none, once all known words
+-- are there.
 use Rattle.std.specs.Prelude.{◌≡◌, ℕ, ◌+◌, Bool, true, false, not, if◌then◌else◌, List, [], ◌∷◌, ◌++◌}
 use Rattle.lido_lexer.specs.Lexing.{Gains}
 use Rattle.lido_lexer.specs.Tables.{interned}
@@ -7,7 +7,7 @@ use Rattle.lido_lexer.specs.declared.keyword.Keyword.TheVariants as key
 use Rattle.lido_lexer.specs.declared.token.Token.{Token}
 use Rattle.lido_lexer.specs.declared.token.TokenKind.{TokenKind}
 use Rattle.lido_lexer.specs.declared.token.TokenKind.TheVariants as kind
-use Rattle.lido_computations.specs.Functions.{HasAll, functions}
+use Rattle.lido_computations.specs.Functions.{HasAll, known_words}
 use Rattle.lido_reader.specs.Items.{is_word, rule_text}
 
 abbrev pub is_rule_kind : TokenKind → Bool
@@ -37,14 +37,14 @@ unfoldable pub rule_names : ℕ → List Token → List (List ℕ)
 rule_names k [] = []
 rule_names k (t ∷ ts) = if is_rule t then (called_names k ts ++ rule_names (k + 1) ts) else rule_names k ts
 
--- Where the names of all functions stand among the texts, these names were added and no others.
+-- Where all known words stand among the texts, these names were added and no others.
 pub record Adds (names old new : List (List ℕ)) : Type 0 where
-  pub table : HasAll functions old → new ≡ interned old names
+  pub table : HasAll known_words old → new ≡ interned old names
 
 -- Where they do, no others were added, and maybe not all of these yet.
 pub record AddsSome (names old new : List (List ℕ)) : Type 0 where
-  pub gains : HasAll functions old → Gains new (interned old names)
+  pub gains : HasAll known_words old → Gains new (interned old names)
 
 -- Where they do, the names of all rules of the tokens, added to the old texts, give the same as those of what is left, added to the new ones.
 pub record Owes (k : ℕ) (ts : List Token) (old : List (List ℕ)) (j : ℕ) (us : List Token) (new : List (List ℕ)) : Type 0 where
-  pub table : HasAll functions old → interned old (rule_names k ts) ≡ interned new (rule_names j us)
+  pub table : HasAll known_words old → interned old (rule_names k ts) ≡ interned new (rule_names j us)

@@ -25,6 +25,8 @@ use Rattle.lido_syntax.specs.declared.spec.Element.TheVariants as element
 use Rattle.lido_syntax.specs.declared.spec.RuleItem.{RuleItem}
 use Rattle.lido_syntax.specs.declared.spec.SymbolItem.{SymbolItem}
 use Rattle.lido_syntax.specs.declared.spec.Spec.{Spec}
+use Rattle.lido_computations.specs.declared.owners.Owner.{Owner}
+use Rattle.lido_computations.specs.declared.owners.Owner.TheVariants as owner
 use Rattle.lido_computations.specs.Places.{Optional}
 use Rattle.lido_computations.specs.Phrases.{Done, Then, IsName, IsType, AreMore, AreSeparated, is_comma_kind}
 
@@ -151,9 +153,13 @@ continues_right t = is_element_kind t.what || is_bar_kind t.what
 abbrev pub rule_text : ℕ → List ℕ
 rule_text k = codes "rule_" ++ decimal k
 
--- the id of that text: its place among the texts, or the one behind them where it isn't there
+-- the id of a text: its place among the texts, or the one behind them where it isn't there
+abbrev pub id_in : List (List ℕ) → List ℕ → StrId
+id_in texts text = record { 0 = position_or_len (bytes_eq text) texts }
+
+-- and the id of what that rule is called
 abbrev pub called_in : List (List ℕ) → ℕ → StrId
-called_in texts k = record { 0 = position_or_len (bytes_eq (rule_text k)) texts }
+called_in texts k = id_in texts (rule_text k)
 
 -- what may continue a rule's name that is left out
 abbrev pub is_word_kind : TokenKind → Bool
@@ -189,9 +195,9 @@ pub data IsSymbolHead : List Token → ℕ × Bool → List Token → Type 0 whe
   class : {x : ℕ × Bool} {ts us : List Token} → Then (Keys key.Class) (λ word. Then (Keys key.Symbol) (λ symbol. Done (word.from, true))) ts x us → IsSymbolHead ts x us
   plain : {x : ℕ × Bool} {ts us : List Token} → Then (Keys key.Symbol) (λ symbol. Done (symbol.from, false)) ts x us → IsSymbolHead ts x us
 
--- [name], where `called` is what the rule of a number is called that has none
-abbrev pub IsRuleName : (ℕ → StrId) → ℕ → List Token → StrId → List Token → Type 0
-IsRuleName called k = Optional (Then IsName (λ name. Done name.id)) (called k)
+-- [name], where `called` is what the rule of a number is called that has none; it stands at this place then
+abbrev pub IsRuleName : (ℕ → StrId) → ℕ → ℕ → List Token → Name → List Token → Type 0
+IsRuleName called k at = Optional (Then IsName (λ name. Done name)) (record { at = at; id = called k })
 
 -- {"," name} ":" decls ";", behind the first name
 abbrev pub IsDeclaring : ℕ × Bool → Name → ℕ → List Token → SymbolItem × ℕ → List Token → Type 0
@@ -253,34 +259,35 @@ begins_item t = begins_item_kind t.what
 abbrev pub no_items : Spec
 no_items = record { rules = []; symbols = []; attrs = []; terms = []; chains = [] }
 
--- `called` is what a rule without a name is called, by its number among the rules, from 1.
-module _ (called : ℕ → StrId) (One : ℕ → List Token → Comp × ℕ → List Token → Type 0) where
+-- ---- the whole
+
+-- Items behind those that are found, which have the number of the next computation with them: declarations of attributes,
+abbrev pub IsAttrItem : Spec × ℕ → List Token → Spec × ℕ → List Token → Type 0
+IsAttrItem found = Then IsAttr (λ all. Done (record found.0 { attrs = found.0.attrs ++ all }, found.1))
+
+-- of terminals,
+abbrev pub IsTermItem : Spec × ℕ → List Token → Spec × ℕ → List Token → Type 0
+IsTermItem found = Then IsTerm (λ all. Done (record found.0 { terms = found.0.terms ++ all }, found.1))
+
+-- and of chains
+abbrev pub IsChainItem : Spec × ℕ → List Token → Spec × ℕ → List Token → Type 0
+IsChainItem found = Then IsChain (λ all. Done (record found.0 { chains = found.0.chains ++ all }, found.1))
+
+-- `called` is what a rule without a name is called, by its number among the rules, from 1; `One` says which computations may stand in
+-- the body of a rule, and which in that of a symbol.
+module _ (called : ℕ → StrId) (One : Owner → ℕ → List Token → Comp × ℕ → List Token → Type 0) where
   -- "RULE" [name] ":" name ( "::=" {element} | "LISTOF" name {"|" name} ) body
   abbrev pub IsRule : ℕ → ℕ → List Token → RuleItem × ℕ → List Token → Type 0
-  IsRule k n = Then (Keys key.Rule) (λ word. Then (IsRuleName called k) (λ name. Then (Signs sign.Colon) (λ colon. Then IsName (λ left. Then IsRight (λ right. Then (IsBody One n) (λ all.
-      Done (record { at = word.from; name = name; left = left; list = right.0; right = right.1; body = all.0 }, all.1)))))))
+  IsRule k n = Then (Keys key.Rule) (λ word. Then (IsRuleName called k word.from) (λ name. Then (Signs sign.Colon) (λ colon. Then IsName (λ left. Then IsRight (λ right. Then (IsBody (One owner.Rule) n) (λ all.
+      Done (record { at = name.at; name = name.id; left = left; list = right.0; right = right.1; body = all.0 }, all.1)))))))
 
-  -- ---- the whole
-
-  -- Items behind those that are found, which have the number of the next computation with them: a rule,
+  -- Items behind those that are found: a rule,
   abbrev pub IsRuleItem : Spec × ℕ → List Token → Spec × ℕ → List Token → Type 0
   IsRuleItem found = Then (IsRule (length found.0.rules + 1) found.1) (λ item. Done (record found.0 { rules = found.0.rules ++ item.0 ∷ [] }, item.1))
 
-  -- a symbol's item,
+  -- and a symbol's item
   abbrev pub IsSymbolItem : Spec × ℕ → List Token → Spec × ℕ → List Token → Type 0
-  IsSymbolItem found = Then (IsSymbol One found.1) (λ item. Done (record found.0 { symbols = found.0.symbols ++ item.0 ∷ [] }, item.1))
-
-  -- declarations of attributes,
-  abbrev pub IsAttrItem : Spec × ℕ → List Token → Spec × ℕ → List Token → Type 0
-  IsAttrItem found = Then IsAttr (λ all. Done (record found.0 { attrs = found.0.attrs ++ all }, found.1))
-
-  -- of terminals,
-  abbrev pub IsTermItem : Spec × ℕ → List Token → Spec × ℕ → List Token → Type 0
-  IsTermItem found = Then IsTerm (λ all. Done (record found.0 { terms = found.0.terms ++ all }, found.1))
-
-  -- and of chains
-  abbrev pub IsChainItem : Spec × ℕ → List Token → Spec × ℕ → List Token → Type 0
-  IsChainItem found = Then IsChain (λ all. Done (record found.0 { chains = found.0.chains ++ all }, found.1))
+  IsSymbolItem found = Then (IsSymbol (One owner.Symbol) found.1) (λ item. Done (record found.0 { symbols = found.0.symbols ++ item.0 ∷ [] }, item.1))
 
   -- one more item
   pub data IsFurtherItem (found : Spec × ℕ) : List Token → Spec × ℕ → List Token → Type 0 where

@@ -3,15 +3,17 @@ ghost use Rattle.std.specs.Prelude.{◌≡◌, ◌+◌, ◌<◌, ◌≤◌, ◌�
 ghost use Rattle.lido_base.specs.Reading.{GoesOn, nothing};
 ghost use Rattle.lido_lexer.specs.Lexing.{Gains};
 ghost use Rattle.lido_computations.specs.Functions.{Keeps};
-ghost use Rattle.lido_computations.specs.Computations.{IsComputation};
+ghost use Rattle.lido_computations.specs.Messages.{IsComputationIn};
 ghost use Rattle.lido_reader.specs.Items.{AreComputations, IsBody, IsFurtherComputation, Repeats, is_not_end};
 ghost use Rattle.lido_computations.specs.Phrases.{ReadsSeen};
 ghost use Rattle.lido_reader.specs.Specification.{IsLater};
 
 use crate::ReadSpecFault;
 use lido_base::Strings;
-use lido_computations::computation;
+use lido_computations::computation_in;
+use lido_computations::messages::MessageWords;
 use lido_computations::names::{after_key, keyword, sign};
+use lido_computations::owners::Owner;
 use lido_lexer::{Keyword, Sign, Token, is_key, next};
 use lido_syntax::Comp;
 use std::alloc::Global;
@@ -33,16 +35,18 @@ fn is_not_end(tokens: &[Token]) -> bool
     }
 }
 
-/// `{comp ";"}`
+/// `{comp ";"}`, in a body of this owner
 fn computations<'a>(
     alloc: Global,
     tokens: &'a [Token],
     end: u32,
     strings: &mut Strings,
+    words: MessageWords,
+    owner: Owner,
     number: u32,
 ) -> Result<(Numbered, &'a [Token]), ReadSpecFault>
     ensures reads { (texts : List (List ℕ)) → IsLater strings.new texts
-        → ReadsSeen (λ body. (body.all.items, body.next)) (Repeats (IsFurtherComputation (IsComputation texts)) ([], number)) is_not_end end tokens.now result }
+        → ReadsSeen (λ body. (body.all.items, body.next)) (Repeats (IsFurtherComputation (IsComputationIn words texts owner)) ([], number)) is_not_end end tokens.now result }
     ensures kept { Gains strings.old strings.new }
     ensures same { Keeps strings.old strings.new }
     ensures few { length strings.new ≤ length strings.old + length tokens.now }
@@ -53,7 +57,9 @@ fn computations<'a>(
     let mut next = number;
     let mut rest = tokens;
     while is_not_end(rest) {
-        let ((comp, behind_number), behind) = computation(alloc, rest, end, strings, next)?;
+        let ((comp, behind_number), behind) = computation_in(
+            alloc, rest, end, strings, words, owner, next,
+        )?;
         let (_, behind_semicolon) = sign(behind, end, Sign::Semicolon)?;
         all.push(comp)?;
         next = behind_number;
@@ -62,16 +68,18 @@ fn computations<'a>(
     Ok((Numbered { all, next }, rest))
 }
 
-/// `["COMPUTE" {comp ";"}]`
+/// `["COMPUTE" {comp ";"}]`, in a body of this owner
 fn computed<'a>(
     alloc: Global,
     tokens: &'a [Token],
     end: u32,
     strings: &mut Strings,
+    words: MessageWords,
+    owner: Owner,
     number: u32,
 ) -> Result<(Numbered, &'a [Token]), ReadSpecFault>
     ensures reads { (texts : List (List ℕ)) → IsLater strings.new texts
-        → ReadsSeen (λ body. (body.all.items, body.next)) (AreComputations (IsComputation texts) number) is_not_end end tokens.now result }
+        → ReadsSeen (λ body. (body.all.items, body.next)) (AreComputations (IsComputationIn words texts owner) number) is_not_end end tokens.now result }
     ensures kept { Gains strings.old strings.new }
     ensures same { Keeps strings.old strings.new }
     ensures few { length strings.new ≤ length strings.old + length tokens.now }
@@ -87,27 +95,29 @@ fn computed<'a>(
             tokens,
         ));
     };
-    let (body, rest) = computations(alloc, behind_word, end, strings, number)?;
+    let (body, rest) = computations(alloc, behind_word, end, strings, words, owner, number)?;
     Ok((body, rest))
 }
 
-/// `["COMPUTE" {comp ";"}] "END" ";"`
+/// `["COMPUTE" {comp ";"}] "END" ";"`, the body of such an owner
 pub(crate) fn body<'a>(
     alloc: Global,
     tokens: &'a [Token],
     end: u32,
     strings: &mut Strings,
+    words: MessageWords,
+    owner: Owner,
     number: u32,
 ) -> Result<(Numbered, &'a [Token]), ReadSpecFault>
     ensures reads { (texts : List (List ℕ)) → IsLater strings.new texts
-        → ReadsSeen (λ body. (body.all.items, body.next)) (IsBody (IsComputation texts) number) nothing end tokens.now result }
+        → ReadsSeen (λ body. (body.all.items, body.next)) (IsBody (IsComputationIn words texts owner) number) nothing end tokens.now result }
     ensures kept { Gains strings.old strings.new }
     ensures same { Keeps strings.old strings.new }
     ensures few { length strings.new ≤ length strings.old + length tokens.now }
     ensures each { IfOk result (λ x. length strings.new + length x.1.now ≤ length strings.old + length tokens.now) }
     ensures shorter { IfOk result (λ x. length x.1.now < length tokens.now) }
 {
-    let (body, behind_all) = computed(alloc, tokens, end, strings, number)?;
+    let (body, behind_all) = computed(alloc, tokens, end, strings, words, owner, number)?;
     let (_, behind_end) = keyword(behind_all, end, Keyword::End)?;
     let (_, rest) = sign(behind_end, end, Sign::Semicolon)?;
     Ok((body, rest))

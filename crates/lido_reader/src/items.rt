@@ -6,7 +6,7 @@ ghost use Rattle.lido_lexer.specs.Seen.{Keys};
 ghost use Rattle.lido_lexer.specs.declared.token.Token.{Token};
 ghost use Rattle.lido_computations.specs.Functions.{Keeps};
 ghost use Rattle.lido_reader.specs.Added.{Adds, AddsSome, Owes, first_names, rule_names};
-ghost use Rattle.lido_computations.specs.Computations.{IsComputation};
+ghost use Rattle.lido_computations.specs.Messages.{IsComputationIn};
 ghost use Rattle.lido_reader.specs.Found.{found_in};
 ghost use Rattle.lido_reader.specs.Items.{IsAttrItem, IsChainItem, IsFurtherItem, IsRuleItem, IsSymbolItem, IsTermItem, Repeats, begins_item, called_in, is_item_word, no_items};
 ghost use Rattle.lido_computations.specs.Phrases.{ReadsSeen};
@@ -17,6 +17,7 @@ use crate::declarations::{attr, chain, term};
 use crate::rules::rule;
 use crate::symbols::symbol;
 use lido_base::Strings;
+use lido_computations::messages::MessageWords;
 use lido_computations::names::after_key;
 use lido_lexer::{Keyword, Token, TokenKind, next};
 use lido_syntax::{Decl, RuleItem, SymbolItem, Typed1};
@@ -39,10 +40,11 @@ fn rule_item<'a>(
     tokens: &'a [Token],
     end: u32,
     strings: &mut Strings,
+    words: MessageWords,
     found: Found,
 ) -> Result<(Found, &'a [Token]), ReadSpecFault>
     ensures reads { (texts : List (List ℕ)) → IsLater strings.new texts
-        → ReadsSeen found_in (IsRuleItem (called_in texts) (IsComputation texts) (found_in found)) nothing end tokens.now result }
+        → ReadsSeen found_in (IsRuleItem (called_in texts) (IsComputationIn words texts) (found_in found)) nothing end tokens.now result }
     ensures kept { Gains strings.old strings.new }
     ensures few { length strings.new ≤ length strings.old + length tokens.now }
     ensures each { IfOk result (λ x. length strings.new + length x.1.now ≤ length strings.old + length tokens.now) }
@@ -52,7 +54,7 @@ fn rule_item<'a>(
 {
     let mut all = found;
     let place = all.rules.len() as u64 + 1;
-    let ((item, next), rest) = rule(alloc, tokens, end, strings, place, all.next)?;
+    let ((item, next), rest) = rule(alloc, tokens, end, strings, words, place, all.next)?;
     all.rules.push(item)?;
     all.next = next;
     Ok((all, rest))
@@ -64,10 +66,11 @@ fn symbol_item<'a>(
     tokens: &'a [Token],
     end: u32,
     strings: &mut Strings,
+    words: MessageWords,
     found: Found,
 ) -> Result<(Found, &'a [Token]), ReadSpecFault>
     ensures reads { (texts : List (List ℕ)) → IsLater strings.new texts
-        → ReadsSeen found_in (IsSymbolItem (called_in texts) (IsComputation texts) (found_in found)) nothing end tokens.now result }
+        → ReadsSeen found_in (IsSymbolItem (called_in texts) (IsComputationIn words texts) (found_in found)) nothing end tokens.now result }
     ensures kept { Gains strings.old strings.new }
     ensures same { Keeps strings.old strings.new }
     ensures few { length strings.new ≤ length strings.old + length tokens.now }
@@ -75,7 +78,7 @@ fn symbol_item<'a>(
     ensures shorter { IfOk result (λ x. length x.1.now < length tokens.now) }
 {
     let mut all = found;
-    let ((item, next), rest) = symbol(alloc, tokens, end, strings, all.next)?;
+    let ((item, next), rest) = symbol(alloc, tokens, end, strings, words, all.next)?;
     all.symbols.push(item)?;
     all.next = next;
     Ok((all, rest))
@@ -88,7 +91,7 @@ fn attr_item(
     end: u32,
     found: Found,
 ) -> Result<(Found, &[Token]), ReadSpecFault>
-    ensures reads { (texts : List (List ℕ)) → ReadsSeen found_in (IsAttrItem (called_in texts) (IsComputation texts) (found_in found)) nothing end tokens.now result }
+    ensures reads { ReadsSeen found_in (IsAttrItem (found_in found)) nothing end tokens.now result }
     ensures shorter { IfOk result (λ x. length x.1.now < length tokens.now) }
 {
     let mut all = found;
@@ -104,7 +107,7 @@ fn term_item(
     end: u32,
     found: Found,
 ) -> Result<(Found, &[Token]), ReadSpecFault>
-    ensures reads { (texts : List (List ℕ)) → ReadsSeen found_in (IsTermItem (called_in texts) (IsComputation texts) (found_in found)) nothing end tokens.now result }
+    ensures reads { ReadsSeen found_in (IsTermItem (found_in found)) nothing end tokens.now result }
     ensures shorter { IfOk result (λ x. length x.1.now < length tokens.now) }
 {
     let mut all = found;
@@ -120,7 +123,7 @@ fn chain_item(
     end: u32,
     found: Found,
 ) -> Result<(Found, &[Token]), ReadSpecFault>
-    ensures reads { (texts : List (List ℕ)) → ReadsSeen found_in (IsChainItem (called_in texts) (IsComputation texts) (found_in found)) nothing end tokens.now result }
+    ensures reads { ReadsSeen found_in (IsChainItem (found_in found)) nothing end tokens.now result }
     ensures shorter { IfOk result (λ x. length x.1.now < length tokens.now) }
 {
     let mut all = found;
@@ -174,10 +177,11 @@ fn item<'a>(
     tokens: &'a [Token],
     end: u32,
     strings: &mut Strings,
+    words: MessageWords,
     found: Found,
 ) -> Result<(Found, &'a [Token]), ReadSpecFault>
     ensures reads { (texts : List (List ℕ)) → IsLater strings.new texts
-        → ReadsSeen found_in (IsFurtherItem (called_in texts) (IsComputation texts) (found_in found)) nothing end tokens.now result }
+        → ReadsSeen found_in (IsFurtherItem (called_in texts) (IsComputationIn words texts) (found_in found)) nothing end tokens.now result }
     ensures kept { Gains strings.old strings.new }
     ensures few { length strings.new ≤ length strings.old + length tokens.now }
     ensures each { IfOk result (λ x. length strings.new + length x.1.now ≤ length strings.old + length tokens.now) }
@@ -186,7 +190,7 @@ fn item<'a>(
     ensures within { AddsSome (first_names (length found.rules.items + 1) tokens.now) strings.old strings.new }
 {
     if has_key(tokens, Keyword::Rule) {
-        return rule_item(alloc, tokens, end, strings, found);
+        return rule_item(alloc, tokens, end, strings, words, found);
     }
     if has_key(tokens, Keyword::Attr) {
         return attr_item(alloc, tokens, end, found);
@@ -197,7 +201,7 @@ fn item<'a>(
     if has_key(tokens, Keyword::Chain) {
         return chain_item(alloc, tokens, end, found);
     }
-    symbol_item(alloc, tokens, end, strings, found)
+    symbol_item(alloc, tokens, end, strings, words, found)
 }
 
 /// `{ rule | symbol | attr | term | chain }`
@@ -206,9 +210,10 @@ pub(crate) fn items<'a>(
     tokens: &'a [Token],
     end: u32,
     strings: &mut Strings,
+    words: MessageWords,
 ) -> Result<(Found, &'a [Token]), ReadSpecFault>
     ensures reads { (texts : List (List ℕ)) → IsLater strings.new texts
-        → ReadsSeen found_in (Repeats (IsFurtherItem (called_in texts) (IsComputation texts)) (no_items, 0)) begins_item end tokens.now result }
+        → ReadsSeen found_in (Repeats (IsFurtherItem (called_in texts) (IsComputationIn words texts)) (no_items, 0)) begins_item end tokens.now result }
     ensures kept { Gains strings.old strings.new }
     ensures few { length strings.new ≤ length strings.old + length tokens.now }
     ensures table { IfOk result (λ x. (texts : List (List ℕ)) → IsLater strings.new texts
@@ -225,7 +230,7 @@ pub(crate) fn items<'a>(
     };
     let mut rest = tokens;
     while begins_item(rest) {
-        let (more, behind) = item(alloc, rest, end, strings, found)?;
+        let (more, behind) = item(alloc, rest, end, strings, words, found)?;
         found = more;
         rest = behind;
     }

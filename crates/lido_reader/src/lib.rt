@@ -3,17 +3,15 @@
 
 mod bodies;
 mod declarations;
-mod functions;
 mod items;
+mod known_words;
 pub mod laws;
 mod right_sides;
 mod rule_names;
 mod rules;
 mod specification;
 mod symbols;
-#[cfg(test)]
-mod tests;
 
-pub use functions::intern_functions;
+pub use known_words::intern_known_words;
 pub use lido_computations::ReadSpecFault;
 pub use specification::read_spec;

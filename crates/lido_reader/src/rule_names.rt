@@ -12,6 +12,7 @@ use crate::ReadSpecFault;
 use lido_base::{StrId, Strings};
 use lido_computations::names::after_name;
 use lido_lexer::Token;
+use lido_syntax::Name;
 use std::alloc::{AllocError, Global};
 
 /// What the rule of this number is called where it has no name.
@@ -35,14 +36,15 @@ fn called(alloc: Global, strings: &mut Strings, number: u64) -> Result<StrId, Re
     Ok(id)
 }
 
-/// `[name]`, for the rule of this number among the rules.
+/// `[name]`, for the rule of this number among the rules, whose place is this one where it has no name.
 pub(crate) fn rule_name<'a>(
     alloc: Global,
     tokens: &'a [Token],
     strings: &mut Strings,
     number: u64,
-) -> Result<(StrId, &'a [Token]), ReadSpecFault>
-    ensures reads { IfOk result (λ x. (texts : List (List ℕ)) → IsLater strings.new texts → Finds (IsRuleName (called_in texts) number) is_word tokens.now x.0 x.1.now) }
+    at: u32,
+) -> Result<(Name, &'a [Token]), ReadSpecFault>
+    ensures reads { IfOk result (λ x. (texts : List (List ℕ)) → IsLater strings.new texts → Finds (IsRuleName (called_in texts) number at) is_word tokens.now x.0 x.1.now) }
     ensures no_longer { IfOk result (λ x. length x.1.now ≤ length tokens.now) }
     ensures kept { Gains strings.old strings.new }
     ensures few { length strings.new ≤ length strings.old + 1 }
@@ -51,8 +53,8 @@ pub(crate) fn rule_name<'a>(
     ensures memory { IfErr result (λ fault. fault ≡ ReadSpecFault.Memory) }
 {
     if let Some((name, rest)) = after_name(tokens) {
-        return Ok((name.id, rest));
+        return Ok((name, rest));
     }
     let id = called(alloc, strings, number)?;
-    Ok((id, tokens))
+    Ok((Name { at, id }, tokens))
 }

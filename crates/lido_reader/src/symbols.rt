@@ -3,7 +3,7 @@ ghost use Rattle.std.specs.Prelude.{◌≡◌, ◌+◌, ◌<◌, ◌≤◌, ◌�
 ghost use Rattle.lido_base.specs.Reading.{GoesOn, nothing};
 ghost use Rattle.lido_lexer.specs.Lexing.{Gains};
 ghost use Rattle.lido_computations.specs.Functions.{Keeps};
-ghost use Rattle.lido_computations.specs.Computations.{IsComputation};
+ghost use Rattle.lido_computations.specs.Messages.{IsComputationIn};
 ghost use Rattle.lido_reader.specs.Items.{AreInherited, IsAbout, IsComputing, IsDeclaring, IsSymbol, IsSymbolHead, continues_inherited, is_declaring};
 ghost use Rattle.lido_computations.specs.Phrases.{AreMore, IsName, ReadsSeen, is_comma};
 ghost use Rattle.lido_reader.specs.Specification.{IsLater};
@@ -12,7 +12,9 @@ use crate::ReadSpecFault;
 use crate::bodies::body;
 use crate::declarations::decls;
 use lido_base::{List, Strings};
+use lido_computations::messages::MessageWords;
 use lido_computations::names::{after_key, after_sign, keyword, name, names, sign};
+use lido_computations::owners::Owner;
 use lido_lexer::{Keyword, Sign, Token, is_sign, next};
 use lido_syntax::{Name, SymbolItem};
 use std::alloc::Global;
@@ -134,12 +136,13 @@ fn computing<'a>(
     tokens: &'a [Token],
     end: u32,
     strings: &mut Strings,
+    words: MessageWords,
     head: SymbolHead,
     first: Name,
     number: u32,
 ) -> Result<((SymbolItem, u32), &'a [Token]), ReadSpecFault>
     ensures reads { (texts : Sequence (Sequence ℕ)) → IsLater strings.new texts
-        → ReadsSeen (λ item. item) (IsComputing (IsComputation texts) (head.at, head.class) first number) nothing end tokens.now result }
+        → ReadsSeen (λ item. item) (IsComputing (IsComputationIn words texts Owner.Symbol) (head.at, head.class) first number) nothing end tokens.now result }
     ensures kept { Gains strings.old strings.new }
     ensures same { Keeps strings.old strings.new }
     ensures few { length strings.new ≤ length strings.old + length tokens.now }
@@ -147,7 +150,15 @@ fn computing<'a>(
     ensures shorter { IfOk result (λ x. length x.1.now < length tokens.now) }
 {
     let (classes, behind_classes) = inherited(alloc, tokens, end)?;
-    let (computed, rest) = body(alloc, behind_classes, end, strings, number)?;
+    let (computed, rest) = body(
+        alloc,
+        behind_classes,
+        end,
+        strings,
+        words,
+        Owner::Symbol,
+        number,
+    )?;
     let names = vec![in alloc; first]?;
     let item = SymbolItem {
         at: head.at,
@@ -166,12 +177,13 @@ fn about<'a>(
     tokens: &'a [Token],
     end: u32,
     strings: &mut Strings,
+    words: MessageWords,
     head: SymbolHead,
     first: Name,
     number: u32,
 ) -> Result<((SymbolItem, u32), &'a [Token]), ReadSpecFault>
     ensures reads { (texts : Sequence (Sequence ℕ)) → IsLater strings.new texts
-        → ReadsSeen (λ item. item) (IsAbout (IsComputation texts) (head.at, head.class) first number) nothing end tokens.now result }
+        → ReadsSeen (λ item. item) (IsAbout (IsComputationIn words texts Owner.Symbol) (head.at, head.class) first number) nothing end tokens.now result }
     ensures kept { Gains strings.old strings.new }
     ensures same { Keeps strings.old strings.new }
     ensures few { length strings.new ≤ length strings.old + length tokens.now }
@@ -182,7 +194,7 @@ fn about<'a>(
         let (declared, rest) = declaring(alloc, tokens, end, head, first, number)?;
         return Ok((declared, rest));
     }
-    let (computed, rest) = computing(alloc, tokens, end, strings, head, first, number)?;
+    let (computed, rest) = computing(alloc, tokens, end, strings, words, head, first, number)?;
     Ok((computed, rest))
 }
 
@@ -193,10 +205,11 @@ pub(crate) fn symbol<'a>(
     tokens: &'a [Token],
     end: u32,
     strings: &mut Strings,
+    words: MessageWords,
     number: u32,
 ) -> Result<((SymbolItem, u32), &'a [Token]), ReadSpecFault>
     ensures reads { (texts : Sequence (Sequence ℕ)) → IsLater strings.new texts
-        → ReadsSeen (λ item. item) (IsSymbol (IsComputation texts) number) nothing end tokens.now result }
+        → ReadsSeen (λ item. item) (IsSymbol (IsComputationIn words texts Owner.Symbol) number) nothing end tokens.now result }
     ensures kept { Gains strings.old strings.new }
     ensures same { Keeps strings.old strings.new }
     ensures few { length strings.new ≤ length strings.old + length tokens.now }
@@ -205,6 +218,15 @@ pub(crate) fn symbol<'a>(
 {
     let (head, behind_head) = symbol_head(tokens, end)?;
     let (first, behind_first) = name(behind_head, end)?;
-    let (item, rest) = about(alloc, behind_first, end, strings, head, first, number)?;
+    let (item, rest) = about(
+        alloc,
+        behind_first,
+        end,
+        strings,
+        words,
+        head,
+        first,
+        number,
+    )?;
     Ok((item, rest))
 }

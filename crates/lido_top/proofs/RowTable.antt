@@ -7,20 +7,21 @@ use Rattle.lido_lexer.specs.declared.token.TokenKind.{TokenKind}
 use Rattle.lido_lexer.specs.declared.token.TokenKind.TheVariants as kind
 use Rattle.lido_lexer.specs.Lexing.{shown_in, HasText}
 use Rattle.lido_lexer.specs.Tables.{interned, texts_in}
-use Rattle.lido_computations.specs.Functions.{functions}
+use Rattle.lido_computations.specs.Functions.{known_words}
 use Rattle.lido_reader.specs.Added.{rule_names}
 use Rattle.lido_reader.specs.Specification.{IsSpecOf, IsReading}
 use Rattle.lido_reader.proofs.ExampleTree.{ADD, spelled, spec}
 use Rattle.lido_reader.proofs.ExampleSyntax.{is_spec}
 
--- the names of functions, and behind them the texts of the example
+-- the known words, and behind them the texts of the example
 abbrev pub table : List (List ℕ)
 table =
     codes "OR" ∷ codes "AND" ∷ codes "EQ" ∷ codes "NE" ∷ codes "LT" ∷ codes "LE" ∷ codes "GT" ∷ codes "GE" ∷ codes "ADD" ∷ codes "SUB"
     ∷ codes "MUL" ∷ codes "DIV" ∷ codes "MOD" ∷ codes "NEG" ∷ codes "NOT" ∷ codes "IF" ∷ codes "ORDER" ∷ codes "PTGNULL"
+    ∷ codes "message" ∷ codes "NOTE" ∷ codes "WARNING" ∷ codes "ERROR" ∷ codes "COORDREF"
     ∷ codes "val" ∷ codes "Num" ∷ codes "rTop" ∷ codes "Top" ∷ codes "Expr" ∷ codes "PTGNumb" ∷ codes "rAdd" ∷ codes "+" ∷ codes "rNum" ∷ []
 
-pub is_interned : table ≡ interned functions (texts_in (map (shown_in table) spelled))
+pub is_interned : table ≡ interned known_words (texts_in (map (shown_in table) spelled))
 unfolding interned
 is_interned = refl
 

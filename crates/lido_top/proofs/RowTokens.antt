@@ -10,7 +10,7 @@ use Rattle.lido_lexer.specs.Signs.{begins_comment, sign_of}
 use Rattle.lido_lexer.specs.Tokens.{Shown, Word, Key, Int, Literal, Sign, IsFront}
 use Rattle.lido_lexer.specs.Lexing.{Placed, placed, Lexes, ended, after_gap, with_token, Lexing, shown_in}
 use Rattle.lido_lexer.specs.Tables.{LexedFrom}
-use Rattle.lido_computations.specs.Functions.{functions}
+use Rattle.lido_computations.specs.Functions.{known_words}
 use Rattle.lido_top.specs.Answer.{part}
 use Rattle.lido_top.proofs.RowText.{job, sections}
 use Rattle.lido_reader.proofs.ExampleTree.{spelled}
@@ -92,6 +92,6 @@ shown : map (shown_in table) spelled ≡ lexed.0
 unfolding lexed held
 shown = refl
 
-pub is_lexed : LexedFrom functions (part job sections.spec) (Ok (table, spelled))
+pub is_lexed : LexedFrom known_words (part job sections.spec) (Ok (table, spelled))
 unfolding LexedFrom Lexing
 is_lexed = record { spelled = subst (λ (tokens : List Placed). Lexes 241 (part job sections.spec) tokens) (sym shown) lexed.1; table = is_interned; ids = have_texts }

@@ -4,7 +4,7 @@ use Rattle.lido_base.specs.Phases.{IsThe, OneOf, Then, Gives}
 use Rattle.lido_base.specs.declared.pattern.Pattern.{Pattern}
 use Rattle.lido_lexer.specs.declared.token.Token.{Token}
 use Rattle.lido_syntax.specs.declared.spec.Spec.{Spec}
-use Rattle.lido_computations.specs.Functions.{HasAll, IsAmong, functions}
+use Rattle.lido_computations.specs.Functions.{HasAll, IsAmong, known_words}
 use Rattle.job_text.specs.declared.cutting.Sections.{Sections}
 use Rattle.order_report.specs.declared.status.Status.{Status}
 use Rattle.lido_base.proofs.PhasesLemmas.{the_one_of, one_as, none_as}
@@ -59,7 +59,7 @@ BehindTokens bytes sections = λ read. Then (SyntaxOf read (size_of sections.spe
 
 -- what comes behind the sections
 abbrev pub BehindSections : List ℕ → Sections → Result (List ℕ) Status → Type 0
-BehindSections bytes = λ sections. Then (TokensOf functions bytes sections) (BehindTokens bytes sections)
+BehindSections bytes = λ sections. Then (TokensOf known_words bytes sections) (BehindTokens bytes sections)
 
 module _ {X : Type 0} (view : X → List ℕ) (bytes : List ℕ) where
   pub sections_stop : (e : Status) → (e ≡ status.Memory) ⊎ IsThe (SectionsOf bytes) (Err e) → Gives view (TextOf bytes) status.Memory (Err e)
@@ -70,14 +70,14 @@ module _ {X : Type 0} (view : X → List ℕ) (bytes : List ℕ) where
   unfolding TextOf
   sections_next s r first next = gives_next view (SectionsOf bytes) (BehindSections bytes) status.Memory s r first next
 
-  module _ (s : Sections) (texts : List (List ℕ)) (table : texts ≡ functions) where
+  module _ (s : Sections) (texts : List (List ℕ)) (table : texts ≡ known_words) where
     pub tokens_stop : (e : Status) → (e ≡ status.Memory) ⊎ IsThe (TokensOf texts bytes s) (Err e) → Gives view (BehindSections bytes s) status.Memory (Err e)
-    tokens_stop e given = gives_stop view (TokensOf functions bytes s) (BehindTokens bytes s) status.Memory e
+    tokens_stop e given = gives_stop view (TokensOf known_words bytes s) (BehindTokens bytes s) status.Memory e
         (subst (λ (l : List (List ℕ)). (e ≡ status.Memory) ⊎ IsThe (TokensOf l bytes s) (Err e)) table given)
 
     pub tokens_next : (read : List (List ℕ) × List Token) (r : Result X Status) → IsThe (TokensOf texts bytes s) (Ok read) → Gives view (BehindTokens bytes s read) status.Memory r
         → Gives view (BehindSections bytes s) status.Memory r
-    tokens_next read r first next = gives_next view (TokensOf functions bytes s) (BehindTokens bytes s) status.Memory read r
+    tokens_next read r first next = gives_next view (TokensOf known_words bytes s) (BehindTokens bytes s) status.Memory read r
         (subst (λ (l : List (List ℕ)). IsThe (TokensOf l bytes s) (Ok read)) table first) next
 
   module _ (s : Sections) (texts : List (List ℕ)) (tokens seen : List Token) (same : seen ≡ tokens) where
@@ -103,5 +103,5 @@ module _ {X : Type 0} (view : X → List ℕ) (bytes : List ℕ) where
       patterns_next patterns r first next = gives_next view (PatternsOf (behind_spec (texts, tokens)) bytes s) (λ patterns. FirstPathOf bytes) status.Memory patterns r
           (subst (λ (l : List (List ℕ)). IsThe (PatternsOf l bytes s) (Ok patterns)) behind first) next
 
-pub all_functions : (texts : List (List ℕ)) → texts ≡ functions → HasAll functions texts
-all_functions texts table = record { each = λ name among. subst (λ (l : List (List ℕ)). IsAmong l name) (sym table) among }
+pub all_known : (texts : List (List ℕ)) → texts ≡ known_words → HasAll known_words texts
+all_known texts table = record { each = λ name among. subst (λ (l : List (List ℕ)). IsAmong l name) (sym table) among }

@@ -2,7 +2,7 @@
 ghost use Rattle.std.specs.Prelude.{◌≡◌, ◌≤◌, length, IfOk, IfErr, OnOk};
 ghost use Rattle.lido_base.specs.Inputs.{most};
 ghost use Rattle.lido_base.specs.Phases.{Gives};
-ghost use Rattle.lido_computations.specs.Functions.{HasAll, functions};
+ghost use Rattle.lido_computations.specs.Functions.{HasAll, known_words};
 ghost use Rattle.order_report.specs.declared.status.Status.{Status};
 ghost use Rattle.lido_top.specs.Refusals.{IsRefusal};
 ghost use Rattle.lido_top.specs.Answer.{IsWithin, part, behind_spec, PatternsOf, SectionsOf, SyntaxOf, TokensOf};
@@ -10,7 +10,7 @@ ghost use Rattle.lido_top.specs.Answer.{IsWithin, part, behind_spec, PatternsOf,
 use job_text::{CutFault, Sections, Span, cut};
 use lido_base::{Patterns, Strings};
 use lido_lexer::{LexFault, Token, lex};
-use lido_reader::{ReadSpecFault, intern_functions, read_spec};
+use lido_reader::{ReadSpecFault, intern_known_words, read_spec};
 use lido_syntax::{Spec, SpecFault};
 use order_report::Status;
 use ptg_patterns::{PtgFault, read_patterns};
@@ -40,13 +40,13 @@ pub fn sections_of(bytes: &[u8]) -> Result<Sections, Status>
     }
 }
 
-/// A table of the names of all functions that operators stand for, and of no other texts. Its hashes are keyed by the input.
+/// A table of the words that the reader of specifications knows by their texts, and of no other texts. Its hashes are keyed by the input.
 pub fn first_texts(alloc: Global, bytes: &[u8]) -> Result<Strings, Status>
-    ensures table { IfOk result (λ strings. strings ≡ functions) }
+    ensures table { IfOk result (λ strings. strings ≡ known_words) }
     ensures memory { IfErr result (λ status. status ≡ Status.Memory) }
 {
     let mut strings = Strings::keyed_by(alloc, bytes);
-    match intern_functions(&mut strings) {
+    match intern_known_words(&mut strings) {
         Ok(()) => Ok(strings),
         Err(_) => Err(Status::Memory),
     }
@@ -63,7 +63,7 @@ pub fn tokens_of(
     requires within { IsWithin bytes.now sections.spec }
     ensures gives { Gives (λ tokens. (strings.new, tokens.items)) (TokensOf strings.old bytes.now sections) Status.Memory result }
     ensures refusal { IfErr result IsRefusal }
-    ensures there { HasAll functions strings.old → HasAll functions strings.new }
+    ensures there { HasAll known_words strings.old → HasAll known_words strings.new }
 {
     match lex(alloc, part(bytes, sections.spec), strings) {
         Ok(tokens) => Ok(tokens),
@@ -79,7 +79,7 @@ pub fn syntax_of(
     size: u32,
     strings: &mut Strings,
 ) -> Result<Spec, Status>
-    requires { HasAll functions strings.old }
+    requires { HasAll known_words strings.old }
     ensures gives { Gives (λ spec. spec) (SyntaxOf (strings.old, tokens.now) size) Status.Memory result }
     ensures refusal { IfErr result IsRefusal }
     ensures table { OnOk result (strings.new ≡ behind_spec (strings.old, tokens.now)) }

@@ -22,22 +22,22 @@ returns-clause-reads c = λ texts later.
     rw (rules, symbols, attrs, terms, chains) (items_whole texts c.args.tokens.now c.args.end (found_in c.in_ok-found.found) c.in_ok-found.rest.now (c.in_ok-found.ensures.reads texts later) c.in_default.ensures)
 
 pub returns-in_err-found-clause-within : goal.returns-in_err-found-clause-within
-returns-in_err-found-clause-within c = λ h. later_at c.items-read.ensures.kept c.len-texts.ensures.distinct (c.in_err-found.ensures.within c.items-read.new.strings (itself c.len-texts.ensures.distinct)) h
+returns-in_err-found-clause-within c = λ h. later_at c.read_items-read.ensures.kept c.len-texts.ensures.distinct (c.in_err-found.ensures.within c.read_items-read.new.strings (itself c.len-texts.ensures.distinct)) h
 
 pub returns-in_err-found-clause-exact : goal.returns-in_err-found-clause-exact
-returns-in_err-found-clause-exact c = λ h. returns-in_err-found-clause-reads c _ (later_at c.items-read.ensures.kept c.len-texts.ensures.distinct (c.in_err-found.ensures.within c.items-read.new.strings (itself c.len-texts.ensures.distinct)) h)
+returns-in_err-found-clause-exact c = λ h. returns-in_err-found-clause-reads c _ (later_at c.read_items-read.ensures.kept c.len-texts.ensures.distinct (c.in_err-found.ensures.within c.read_items-read.new.strings (itself c.len-texts.ensures.distinct)) h)
 
 pub returns-in-Some-clause-within : goal.returns-in-Some-clause-within
-returns-in-Some-clause-within c = λ h. later_at c.items-read.ensures.kept c.len-texts.ensures.distinct (c.in_ok-found.ensures.within c.items-read.new.strings (itself c.len-texts.ensures.distinct)) h
+returns-in-Some-clause-within c = λ h. later_at c.read_items-read.ensures.kept c.len-texts.ensures.distinct (c.in_ok-found.ensures.within c.read_items-read.new.strings (itself c.len-texts.ensures.distinct)) h
 
 pub returns-in-Some-clause-exact : goal.returns-in-Some-clause-exact
-returns-in-Some-clause-exact c = λ h. returns-in-Some-clause-reads c _ (later_at c.items-read.ensures.kept c.len-texts.ensures.distinct (c.in_ok-found.ensures.within c.items-read.new.strings (itself c.len-texts.ensures.distinct)) h)
+returns-in-Some-clause-exact c = λ h. returns-in-Some-clause-reads c _ (later_at c.read_items-read.ensures.kept c.len-texts.ensures.distinct (c.in_ok-found.ensures.within c.read_items-read.new.strings (itself c.len-texts.ensures.distinct)) h)
 
 pub returns-clause-within : goal.returns-clause-within
-returns-clause-within c = λ h. later_at c.items-read.ensures.kept c.len-texts.ensures.distinct (c.in_ok-found.ensures.within c.items-read.new.strings (itself c.len-texts.ensures.distinct)) h
+returns-clause-within c = λ h. later_at c.read_items-read.ensures.kept c.len-texts.ensures.distinct (c.in_ok-found.ensures.within c.read_items-read.new.strings (itself c.len-texts.ensures.distinct)) h
 
 pub returns-clause-exact : goal.returns-clause-exact
-returns-clause-exact c = λ h. returns-clause-reads c _ (later_at c.items-read.ensures.kept c.len-texts.ensures.distinct (c.in_ok-found.ensures.within c.items-read.new.strings (itself c.len-texts.ensures.distinct)) h)
+returns-clause-exact c = λ h. returns-clause-reads c _ (later_at c.read_items-read.ensures.kept c.len-texts.ensures.distinct (c.in_ok-found.ensures.within c.read_items-read.new.strings (itself c.len-texts.ensures.distinct)) h)
 
 pub returns-clause-table : goal.returns-clause-table
-returns-clause-table c = λ h. (owes_nothing (c.in_ok-found.ensures.table c.items-read.new.strings (itself c.len-texts.ensures.distinct)) c.in_default.ensures).table h
+returns-clause-table c = λ h. (owes_nothing (c.in_ok-found.ensures.table c.read_items-read.new.strings (itself c.len-texts.ensures.distinct)) c.in_default.ensures).table h

@@ -1,10 +1,10 @@
 use Rattle.std.proofs.Common.{Ok, Err, string_bytes}
 use Rattle.std.specs.declared.alloc.Global.{Global}
-use Rattle.lido_top.proofs.StepsLemmas.{all_functions, sections_stop, sections_next, tokens_stop, tokens_next, syntax_stop, syntax_next, patterns_stop, patterns_next}
+use Rattle.lido_top.proofs.StepsLemmas.{all_known, sections_stop, sections_next, tokens_stop, tokens_next, syntax_stop, syntax_next, patterns_stop, patterns_next}
 use Rattle.lido_top.proofs.steps.text_of.Goals as goal
 
 pub syntax_of-requires : goal.syntax_of-requires
-syntax_of-requires c = c.in-Ok-tokens_of.ensures.there (all_functions c.in-Ok-first_texts.strings c.in-Ok-first_texts.ensures.table)
+syntax_of-requires c = c.in-Ok-tokens_of.ensures.there (all_known c.in-Ok-first_texts.strings c.in-Ok-first_texts.ensures.table)
 
 pub returns-in-Err-clause-gives : goal.returns-in-Err-clause-gives
 returns-in-Err-clause-gives c =

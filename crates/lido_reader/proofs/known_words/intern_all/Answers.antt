@@ -6,7 +6,7 @@ use Rattle.lido_lexer.proofs.Reading.{gains_none, gains_more}
 use Rattle.lido_lexer.specs.Tables.{interned}
 use Rattle.lido_lexer.proofs.TablesLemmas.{interned_none}
 use Rattle.lido_reader.proofs.AddedLemmas.{interned_more, gains_this}
-use Rattle.lido_reader.proofs.functions.intern_all.Goals as goal
+use Rattle.lido_reader.proofs.known_words.intern_all.Goals as goal
 
 pub loop-name-init : goal.loop-name-init
 loop-name-init c = record { table = sym (interned_none c.args.strings.now); kept = gains_none c.args.strings.now }

@@ -40,12 +40,12 @@ abbrev s : AttrId
 s = record { 0 = 1 }
 
 abbrev InClosed : AttrId → Type 0
-InClosed a = HasKind symbols rules X Synthesized a × ((b : AttrId) → IDS rules X a b → IsPeeled symbols rules X 0 b ⊎ Contains (s ∷ []) b)
+InClosed a = HasKind symbols X Synthesized a × ((b : AttrId) → IDS rules X a b → IsPeeled symbols rules X 0 b ⊎ Contains (s ∷ []) b)
 
 s-peeled : IsPeeled symbols rules X 1 s
 s-peeled = inr (s ∷ [], contains-first s [], each-of InClosed (s ∷ []) (((s_attribute, refl, refl), λ b h. absurd (no-IDS X s b h)), tt))
 
-i-inherited : HasKind symbols rules X Synthesized i → ⊥
+i-inherited : HasKind symbols X Synthesized i → ⊥
 i-inherited (attr, e, k) = kinds-apart (sym k ∙ sym (ap (λ (a : FlatAttr). a.kind) (held e)))
 
 i-not-peeled : IsPeeled symbols rules X 1 i → ⊥

@@ -16,7 +16,7 @@ use Rattle.trials_of_grammar.proofs.Finite.{never}
 use Rattle.trials_of_grammar.proofs.ItemTrees.{at-rules}
 
 abbrev Above : ℕ → FlatRule → Type 0
-Above n r = (a : ℕ) (attr : FlatAttr) (p : Origin) → slice_get (attrs_of symbols r.left) a ≡ Some attr → attr.written ≡ true → in_table faulty n a ≡ Some (Bad p) → IsAtMost (overflow 1 2) p
+Above n r = (a : ℕ) (attr : FlatAttr) (p : Origin) → slice_get (attrs_of symbols r.left) a ≡ Some attr → attr.written ≡ true → in_table faulty (n, a) ≡ Some (Bad p) → IsAtMost (overflow 1 2) p
 
 the-origin : (o p : Origin) → Some (Bad o) ≡ Some (Bad p) → o ≡ p
 the-origin o p e = held (ap (λ (v : Option Plain). option_and_then fault_of v) e)

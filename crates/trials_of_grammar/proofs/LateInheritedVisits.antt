@@ -59,7 +59,7 @@ Peeled x k a = IsPeeled symbols rules x k a
 
 -- a closed set of what isn't peeled, with all of its kind that isn't, is the class
 class-is : (x : SymId) (k : ℕ) (xs : List AttrId) → IsClosedSet symbols rules x (Peeled x k) (kind_of_class k) xs → ((a : AttrId) → Contains xs a → ¬ Peeled x k a)
-    → ((a : AttrId) → HasKind symbols rules x (kind_of_class k) a → Contains xs a) → IsStrictlyIncreasing (map (λ (a : AttrId). a.0) xs) → IsClass symbols rules x k xs
+    → ((a : AttrId) → HasKind symbols x (kind_of_class k) a → Contains xs a) → IsStrictlyIncreasing (map (λ (a : AttrId). a.0) xs) → IsClass symbols rules x k xs
 class-is x k xs closed new whole ascends = record { same = λ a. (λ m. (inr (xs, m, closed), new a m), λ p. go a p.0 p.1); ascending = ascends }
   where
     go : (a : AttrId) → Peeled x (suc k) a → ¬ Peeled x k a → Contains xs a
@@ -77,7 +77,7 @@ ascends-two zero h = omega arith
 ascends-two (suc k) h = absurd (omega (arith, h))
 
 abbrev Kind-of : SymId → Kind → AttrId → Type 0
-Kind-of x kind a = HasKind symbols rules x kind a
+Kind-of x kind a = HasKind symbols x kind a
 
 -- which attributes are of which kind
 wrong-kind : (x : SymId) (a : AttrId) (attr : FlatAttr) → attribute_at symbols x a ≡ Some attr → attr.kind ≡ Synthesized → Kind-of x Inherited a → ⊥

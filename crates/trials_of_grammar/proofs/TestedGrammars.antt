@@ -125,10 +125,10 @@ module _ (symbols : List FlatSymbol) (r : FlatRule) where
 
 module _ (symbols : List FlatSymbol) (rules : List FlatRule) (shapes : List Shape) (root : SymId) where
   abbrev ListsAreRight : Shape → Type 0
-  ListsAreRight shape = IsTrue shape.list → IsListShape symbols rules shape (cell_of symbols rules shape)
+  ListsAreRight shape = IsTrue shape.list → IsListShape symbols rules shape (cell_of rules shape)
 
   abbrev PlainOnesAreRight : Shape → Type 0
-  PlainOnesAreRight shape = shape.list ≡ false → shape.right ≡ right_side symbols rules shape
+  PlainOnesAreRight shape = shape.list ≡ false → shape.right ≡ right_side rules shape
 
   abbrev bare : FlatSymbol → Type 0
   bare x = IsTrue (is_some x.terminal) → x.attrs ≡ []
@@ -143,10 +143,10 @@ module _ (symbols : List FlatSymbol) (rules : List FlatRule) (shapes : List Shap
     pub each_rule : AllByRecursion (IsTestedRule symbols) rules
     pub each_list : AllByRecursion ListsAreRight shapes
     pub each_plain : AllByRecursion PlainOnesAreRight shapes
-    pub each_shape : map (λ (shape : Shape). shape.rule.0) shapes ≡ positions_of (λ r. not (list_any (λ (shape : Shape). shape.list && is_same_symbol r.left (cell_of symbols rules shape)) shapes)) rules
+    pub each_shape : map (λ (shape : Shape). shape.rule.0) shapes ≡ positions_of (λ r. not (list_any (λ (shape : Shape). shape.list && is_same_symbol r.left (cell_of rules shape)) shapes)) rules
     pub numbers : (length symbols ≤ 2 ^ 16) × (length rules ≤ 2 ^ 16)
     pub occurrences : IsTrue (list_all (λ (r : FlatRule). nat_lt (length r.right) (2 ^ 16)) rules)
-    pub few_attributes : IsTrue (list_all (λ (x : FlatSymbol). nat_le (length x.attrs) 128) symbols)
+    pub few_attributes : IsTrue (list_all (λ (x : FlatSymbol). nat_le (length x.attrs) 256) symbols)
     pub few_occurrences : IsTrue (list_all (λ (r : FlatRule). nat_le (sum_by (λ s. length (attrs_of symbols s)) (symbols_of r)) 1024) rules)
 
   pub grammar-tested : IsTestedGrammar → IsWellFormed symbols rules shapes root
@@ -164,6 +164,6 @@ module _ (symbols : List FlatSymbol) (rules : List FlatRule) (shapes : List Shap
     numbered_symbols = t.numbers.0;
     numbered_rules = t.numbers.1;
     numbered_occurrences = λ k d l. ltb-true _ _ (all-tested (λ (r : FlatRule). nat_lt (length r.right) (2 ^ 16)) rules t.occurrences k d l);
-    few_attributes = λ k d l. leb-true _ _ (all-tested (λ (x : FlatSymbol). nat_le (length x.attrs) 128) symbols t.few_attributes k d l);
+    few_attributes = λ k d l. leb-true _ _ (all-tested (λ (x : FlatSymbol). nat_le (length x.attrs) 256) symbols t.few_attributes k d l);
     few_occurrences = λ k d l. leb-true _ _ (all-tested (λ (r : FlatRule). nat_le (sum_by (λ s. length (attrs_of symbols s)) (symbols_of r)) 1024) rules t.few_occurrences k d l);
   }

@@ -22,13 +22,13 @@ use Rattle.flat_grammar.specs.declared.plan.Label.TheVariants.{Direct, Induced, 
 use Rattle.trials_of_grammar.specs.ListOfItems.{symbol, occurrence, call0}
 
 abbrev pub i_attribute : FlatAttr
-i_attribute = record { name = record { 0 = 20 }; kind = Inherited; ty = type.Int; written = true }
+i_attribute = record { name = record { 0 = 20 }; kind = Inherited; ty = type.Int; written = true; message = false }
 
 abbrev pub s_attribute : FlatAttr
-s_attribute = record { name = record { 0 = 21 }; kind = Synthesized; ty = type.Int; written = true }
+s_attribute = record { name = record { 0 = 21 }; kind = Synthesized; ty = type.Int; written = true; message = false }
 
 abbrev pub out_attribute : FlatAttr
-out_attribute = record { name = record { 0 = 22 }; kind = Synthesized; ty = type.Text; written = true }
+out_attribute = record { name = record { 0 = 22 }; kind = Synthesized; ty = type.Text; written = true; message = false }
 
 -- S with $out, X with i and s
 abbrev pub symbols : List FlatSymbol

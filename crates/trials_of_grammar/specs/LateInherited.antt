@@ -37,13 +37,13 @@ abbrev pub attribute : ℕ → AttrId
 attribute a = record { 0 = a }
 
 abbrev pub v_attribute : FlatAttr
-v_attribute = record { name = record { 0 = 20 }; kind = Synthesized; ty = type.Int; written = true }
+v_attribute = record { name = record { 0 = 20 }; kind = Synthesized; ty = type.Int; written = true; message = false }
 
 abbrev pub i_attribute : FlatAttr
-i_attribute = record { name = record { 0 = 21 }; kind = Inherited; ty = type.Int; written = true }
+i_attribute = record { name = record { 0 = 21 }; kind = Inherited; ty = type.Int; written = true; message = false }
 
 abbrev pub out_attribute : FlatAttr
-out_attribute = record { name = record { 0 = 22 }; kind = Synthesized; ty = type.Text; written = true }
+out_attribute = record { name = record { 0 = 22 }; kind = Synthesized; ty = type.Text; written = true; message = false }
 
 -- S with v and $out, A with i, B with v
 abbrev pub symbols : List FlatSymbol

@@ -36,13 +36,13 @@ call2 comp op e f = Apply' comp op (tt ∷ tt ∷ []) (more_of-FlatExpr e (more_
 
 -- Top with $out, Item with n and $con1, the terminal Num, and the list's cell with $con1
 abbrev pub out_attribute : FlatAttr
-out_attribute = record { name = record { 0 = 20 }; kind = Synthesized; ty = type.Text; written = true }
+out_attribute = record { name = record { 0 = 20 }; kind = Synthesized; ty = type.Text; written = true; message = false }
 
 abbrev pub n_attribute : FlatAttr
-n_attribute = record { name = record { 0 = 21 }; kind = Synthesized; ty = type.Int; written = true }
+n_attribute = record { name = record { 0 = 21 }; kind = Synthesized; ty = type.Int; written = true; message = false }
 
 abbrev pub con_attribute : FlatAttr
-con_attribute = record { name = record { 0 = 22 }; kind = Synthesized; ty = type.Int; written = false }
+con_attribute = record { name = record { 0 = 22 }; kind = Synthesized; ty = type.Int; written = false; message = false }
 
 abbrev pub symbols : List FlatSymbol
 symbols =

@@ -29,7 +29,7 @@ parts-row : (m : Count) (k : whole.Row_of-Expr m) → parts_of_all k ≡ flat_ma
 parts-row m whole.end_of-Expr = refl
 parts-row m (whole.more_of-Expr e es) = ap (λ more. parts e ++ more) (parts-row _ es)
 
-parts_of_args : (args : List Expr) → parts_of_all (hidden-the_row-Expr-0 args) ≡ flat_map parts args
+pub parts_of_args : (args : List Expr) → parts_of_all (hidden-the_row-Expr-0 args) ≡ flat_map parts args
 parts_of_args args = parts-row _ (hidden-the_row-Expr-0 args) ∙ ap (flat_map parts) (whole.items_hidden-the_row-Expr-0 args)
 
 pub parts-Call : (f : Name) (args : List Expr) → parts (expr.Call f args) ≡ expr.Call f args ∷ flat_map parts args

@@ -2,8 +2,10 @@ pub mod RulesOnly
 pub mod Members
 pub mod Classes
 pub mod Tables
+pub mod ValueLemmas
 pub mod MessageLemmas
 pub mod SumOfItemsLemmas
 pub mod NestedStartLemmas
 pub mod NumberedListLemmas
 pub mod HandedDownLemmas
+pub mod OneAttributionLemmas

@@ -11,3 +11,4 @@ pub mod Coordinates
 pub mod Messages
 pub mod TwoSides
 pub mod TerminalHeir
+pub mod OneAttribution

@@ -1,5 +1,9 @@
-//! Values of expressions without attributes, at any node of any tree.
-ghost use Rattle.std.specs.Prelude.{[], pos, negsuc, false};
+//! Values of expressions without attributes, at any node of any tree, and what a computation is made of.
+ghost use Rattle.std.specs.Prelude.{◌≡◌, [], ◌∷◌, pos, negsuc, false};
+ghost use Rattle.lido_syntax.specs.Attributes.{uses};
+ghost use Rattle.lido_syntax.specs.Parts.{parts_of, leaves_of};
+ghost use Rattle.trials_of_syntax.specs.Messages as messages;
+ghost use Rattle.trials_of_syntax.specs.Writing.{int, str, name, named, read, one_text};
 ghost use Rattle.lido_base.specs.Plain.{Plain};
 ghost use Rattle.trials_of_syntax.specs.Expressions.{IsAlways, chosen_branch, difference, remainder, division_by_zero, first_bad};
 ghost use Rattle.lido_base.specs.declared.value.BadKind.{BadKind};
@@ -13,4 +17,13 @@ pub fn values_of_expressions()
         Plain.Bad (record { node = n; comp = number; kind = BadKind.DivideByZero })) }
     ensures first { IsAlways first_bad (λ number n.
         Plain.Bad (record { node = n; comp = number; kind = BadKind.DivideByZero })) }
+{}
+
+/// The parts, the leaves and the uses of a message are those of its condition, and then of its text.
+pub fn parts_of_a_message()
+    ensures parts { parts_of messages.two_note ≡ messages.two_condition ∷ messages.six_by (read (named messages.Item) messages.n)
+        ∷ int 6 ∷ read (named messages.Item) messages.n ∷ int 2 ∷ str one_text ∷ [] }
+    ensures leaves { leaves_of messages.two_note
+        ≡ int 6 ∷ read (named messages.Item) messages.n ∷ int 2 ∷ str one_text ∷ [] }
+    ensures uses { uses messages.two_note ≡ (named messages.Item, name messages.n) ∷ [] }
 {}

@@ -15,7 +15,7 @@ mod whole;
 
 pub use chains::{nested_start, numbered_list, tails};
 pub use coordinates::line_and_column;
-pub use expressions::values_of_expressions;
+pub use expressions::{parts_of_a_message, values_of_expressions};
 pub use inherited::{
     complete_right_sides, computing_nodes, inherited_kinds, listed_class, values_handed_down,
 };
@@ -27,7 +27,7 @@ pub use symbol_computations::{
 };
 pub use whole::{
     attribute_of_an_item, complete_specification, fitting_trees, incomplete_specification,
-    sum_of_items, two_sides,
+    only_attribution, sum_of_items, two_sides,
 };
 
 #[cfg(test)]

@@ -5,13 +5,14 @@ ghost use Rattle.lido_base.specs.declared.kinds.Kind.TheVariants as kind;
 ghost use Rattle.lido_base.specs.declared.value.ValueType.TheVariants as type_of;
 ghost use Rattle.lido_syntax.specs.Assignment.{Assignment};
 ghost use Rattle.lido_syntax.specs.Attributes.{Has, HasKind, HasType};
-ghost use Rattle.lido_syntax.specs.Attribution.{IsAttribution};
+ghost use Rattle.lido_syntax.specs.Attribution.{IsAttribution, HasOneAttribution};
 ghost use Rattle.lido_syntax.specs.Completeness.{IsComplete};
 ghost use Rattle.lido_syntax.specs.Constituents.{constituents_at};
 ghost use Rattle.lido_syntax.specs.Fitting.{IsFitting};
 ghost use Rattle.lido_syntax.specs.Output.{IsResult};
 ghost use Rattle.lido_syntax.specs.Sets.{Sets};
 ghost use Rattle.trials_of_syntax.specs.SumOfItems.{Item, n, sum, spec, undeclared, without_a_number, tree, empty_tree, number_in_a_list, item_at_the_root, item_without_a_number, numbers, wrong_numbers, too_many_numbers};
+ghost use Rattle.trials_of_syntax.specs.OneAttribution as one;
 ghost use Rattle.trials_of_syntax.specs.TwoSides as two;
 ghost use Rattle.trials_of_syntax.specs.Writing.{env};
 
@@ -57,4 +58,12 @@ pub fn sum_of_items()
     ensures result { (sets : Sets spec) → IsResult spec sets env tree numbers (Ok (codes "11", [])) }
     ensures empty { (sets : Sets spec)
         → constituents_at spec sets env empty_tree numbers sum 0 sum.with ≡ Int (pos 0) }
+{}
+
+/// A chain through two children has one attribution and no other. The fault in the chain alone is none, and without a PTGOut
+/// the output is empty.
+pub fn only_attribution()
+    ensures attribution { (sets : Sets one.spec) → IsAttribution one.spec sets env one.tree one.A }
+    ensures only { (sets : Sets one.spec) → HasOneAttribution one.spec sets env one.tree }
+    ensures result { (sets : Sets one.spec) → IsResult one.spec sets env one.tree one.A (Ok ([], [])) }
 {}

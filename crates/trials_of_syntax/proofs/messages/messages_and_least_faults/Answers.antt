@@ -21,7 +21,8 @@ use Rattle.lido_syntax.proofs.MessageLemmas.{message_listed}
 use Rattle.trials_of_syntax.specs.Messages.{spec, tree, rows, numbered, zero_divisor, top_rule, item_rule, top_note, two_note, two_condition, out, one_warning, one_condition, top_error, notes}
 use Rattle.trials_of_syntax.specs.Writing.{env_of_messages}
 use Rattle.trials_of_syntax.proofs.Members.{every}
-use Rattle.trials_of_syntax.proofs.MessageLemmas.{has_value, gives, gives_text, only, only_text}
+use Rattle.trials_of_syntax.proofs.MessageLemmas.{gives, gives_text, only, only_text}
+use Rattle.trials_of_syntax.proofs.ValueLemmas.{has_value}
 use Rattle.trials_of_syntax.proofs.Tables.{each_value}
 use Rattle.trials_of_syntax.proofs.messages.messages_and_least_faults.Goals as goal
 

@@ -19,7 +19,7 @@ bit-cases n k = go (bit_at n k) (bit_at-lt n k)
 one-of : (n k : ℕ) → IsBitSet n k → bit_at n k ≡ 1
 one-of n k h = elim (bit-cases n k) [ inl e ↦ absurd (h (and_pow n k ∙ ap (λ b. b * 2 ^ k) e ∙ omega arith)) | inr e ↦ e ]
 
-set-of : (n k : ℕ) → bit_at n k ≡ 1 → IsBitSet n k
+pub set-of : (n k : ℕ) → bit_at n k ≡ 1 → IsBitSet n k
 set-of n k e none = let product : 1 * 2 ^ k ≡ 0 = ap (λ b. b * 2 ^ k) (sym e) ∙ sym (and_pow n k) ∙ none in let p = pow_pos k in omega arith
 
 -- whether the set has the number

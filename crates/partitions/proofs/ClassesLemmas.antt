@@ -26,69 +26,18 @@ pushed-contains xs y z m = let p = slice_get-contains (xs ++ (y ∷ [])) z m in 
 pub contains-pushed : {X : Type 0} (xs : List X) (y : X) → Contains (xs ++ (y ∷ [])) y
 contains-pushed xs y = Contains-append_right xs (y ∷ []) y (contains-first y [])
 
-increasing-push : (xs : List ℕ) (y : ℕ) → IsStrictlyIncreasing xs → ((x : ℕ) → Contains xs x → x < y) → IsStrictlyIncreasing (xs ++ (y ∷ []))
-increasing-push xs y ascends below k h = elim (cases_lt (k + 1) (length xs)) [
-  | inl l ↦ let a = get_or_append_left xs (y ∷ []) 0 k (omega arith) in let b = get_or_append_left xs (y ∷ []) 0 (k + 1) l in let c = ascends k l in omega arith
-  | inr g ↦
-      let n = length-append xs (y ∷ []) in
-      let last : k + 1 ≡ length xs = omega arith in
-      let a = get_or_append_left xs (y ∷ []) 0 k (omega arith) in
-      let b : get_or (xs ++ (y ∷ [])) (k + 1) 0 ≡ y = ap (λ i. get_or (xs ++ (y ∷ [])) i 0) last ∙ get_or-append_seam xs y [] 0 in
-      let c = below (get_or xs k 0) (contains-slice_get xs k (get_or xs k 0) (slice_get-get_or xs k 0 (omega arith))) in
-      omega arith
-]
-
-same-attribute : (a b : AttrId) → a.0 ≡ b.0 → a ≡ b
-same-attribute a b e = λ i. record { 0 = e i }
-
--- the attributes below a number, found one by one
-module _ (P : ℕ → Type 0) where
-  pub record AreMembers (i : ℕ) (attrs : List AttrId) : Type 0 where
-    pub same : (b : AttrId) → Contains attrs b ↔ ((b.0 < i) × P b.0)
-    pub ascending : IsStrictlyIncreasing (map (λ (b : AttrId). b.0) attrs)
-
-  numbers-below : (attrs : List AttrId) (i : ℕ) → ((b : AttrId) → Contains attrs b → b.0 < i) → (n : ℕ) → Contains (map (λ (b : AttrId). b.0) attrs) n → n < i
-  numbers-below [] i below n m = absurd (omega (arith, m.1))
-  numbers-below (a ∷ attrs) i below n (zero, l, e) = let h = below a (contains-first a attrs) in subst (λ k. k < i) e h
-  numbers-below (a ∷ attrs) i below n (suc k, l, e) = numbers-below attrs i (λ b m. below b (suc m.0, (let q = m.1 in omega arith), m.2)) n (k, (omega arith), e)
-
-  pub members-push : (i : ℕ) (attrs new : List AttrId) (a : AttrId) → AreMembers i attrs → P i → a.0 ≡ i → new ≡ attrs ++ (a ∷ []) → AreMembers (i + 1) new
-  members-push i attrs new a are p e pushed = subst (λ (xs : List AttrId). AreMembers (i + 1) xs) (sym pushed) (record {
-    same = λ b. (
-      (λ m. elim (pushed-contains attrs a b m) [
-        | inl old ↦ let h = (are.same b).0 old in let l = h.0 in ((omega arith), h.1)
-        | inr new ↦ let at = ap (λ (c : AttrId). c.0) new in ((omega arith), subst P (sym e ∙ at) p)
-      ]),
-      (λ h. let l = h.0 in elim (cases_lt b.0 i) [
-        | inl below ↦ Contains-append_left attrs (a ∷ []) b ((are.same b).1 (below, h.1))
-        | inr g ↦ subst (λ (c : AttrId). Contains (attrs ++ (a ∷ [])) c) (same-attribute a b (omega arith)) (contains-pushed attrs a)
-      ]),
-    );
-    ascending = subst (λ (xs : List ℕ). IsStrictlyIncreasing xs) (sym (map-append (λ (b : AttrId). b.0) attrs (a ∷ [])))
-        (increasing-push (map (λ (b : AttrId). b.0) attrs) a.0 are.ascending (λ n m. let h = numbers-below attrs i (λ b q. ((are.same b).0 q).0) n m in omega arith));
-  })
-
-  pub members-skip : (i : ℕ) (attrs new : List AttrId) → AreMembers i attrs → (P i → ⊥) → new ≡ attrs → AreMembers (i + 1) new
-  members-skip i attrs new are none same = subst (λ (xs : List AttrId). AreMembers (i + 1) xs) (sym same) (record {
-    same = λ b. (
-      (λ m. let h = (are.same b).0 m in let l = h.0 in ((omega arith), h.1)),
-      (λ h. let l = h.0 in elim (cases_lt b.0 i) [ inl below ↦ (are.same b).1 (below, h.1) | inr g ↦ absurd (none (let at : b.0 ≡ i = omega arith in subst P at h.1)) ]),
-    );
-    ascending = are.ascending;
-  })
-
 halves : (m : ℕ) → (j : ℕ) × ((m ≡ 2 * j) ⊎ (m ≡ 2 * j + 1))
 halves zero = (0, inl refl)
 halves (suc m) = let h = halves m in elim h.1 [ inl even ↦ (h.0, inr (omega arith)) | inr odd ↦ (suc h.0, inl (omega arith)) ]
 
 module _ (symbols : List FlatSymbol) (rules : List FlatRule) (x : SymId) where
   -- a class is what one set has more than another
-  pub class-is : (k n set without : ℕ) (attrs : List AttrId) → ArePeeled symbols rules x k without → ArePeeled symbols rules x (k + 1) set → n ≡ length (attrs_of symbols x)
-      → ((a : AttrId) → Contains attrs a ↔ ((a.0 < n) × IsBitSet set a.0 × ¬ IsBitSet without a.0)) → IsStrictlyIncreasing (map (λ (a : AttrId). a.0) attrs) → IsClass symbols rules x k attrs
-  class-is k n set without attrs before after count same ascends = record {
+  class-is : (k set without new : ℕ) (attrs : List AttrId) → ArePeeled symbols rules x k without → ArePeeled symbols rules x (k + 1) set → ((j : ℕ) → IsBitSet new j ↔ (IsBitSet set j × (IsBitSet without j → ⊥)))
+      → ((a : AttrId) → Contains attrs a ↔ IsBitSet new a.0) → IsStrictlyIncreasing (map (λ (a : AttrId). a.0) attrs) → IsClass symbols rules x k attrs
+  class-is k set without new attrs before after beside same ascends = record {
     same = λ a. (
-      (λ m. let h = (same a).0 m in (subst (λ i. IsPeeled symbols rules x i a) next ((after a).1 h.1), λ p. h.2 ((before a).0 p))),
-      (λ h. (same a).1 ((let b = attribute-below symbols rules x a (peeled-attribute symbols rules x (suc k) a h.0) in omega arith), (after a).0 (subst (λ i. IsPeeled symbols rules x i a) (sym next) h.0), λ bit. h.1 ((before a).1 bit))),
+      (λ m. let h = (beside a.0).0 ((same a).0 m) in (subst (λ i. IsPeeled symbols rules x i a) next ((after a).1 h.0), λ p. h.1 ((before a).0 p))),
+      (λ h. (same a).1 ((beside a.0).1 ((after a).0 (subst (λ i. IsPeeled symbols rules x i a) (sym next) h.0), λ bit. h.1 ((before a).1 bit)))),
     );
     ascending = ascends;
   }
@@ -96,13 +45,13 @@ module _ (symbols : List FlatSymbol) (rules : List FlatRule) (x : SymId) where
       next : k + 1 ≡ suc k
       next = omega arith
 
-  pub visit-is : (n : ℕ) (levels : Levels) (synthesized inherited : List AttrId) → n ≡ length (attrs_of symbols x)
-      → ((a : AttrId) → Contains synthesized a ↔ ((a.0 < n) × IsBitSet levels.synthesized a.0 × ¬ IsBitSet levels.later a.0)) → IsStrictlyIncreasing (map (λ (a : AttrId). a.0) synthesized)
-      → ((a : AttrId) → Contains inherited a ↔ ((a.0 < n) × IsBitSet levels.both a.0 × ¬ IsBitSet levels.synthesized a.0)) → IsStrictlyIncreasing (map (λ (a : AttrId). a.0) inherited)
+  pub visit-is : (levels : Levels) (only_synthesized only_inherited : ℕ) (synthesized inherited : List AttrId)
+      → ((j : ℕ) → IsBitSet only_synthesized j ↔ (IsBitSet levels.synthesized j × (IsBitSet levels.later j → ⊥))) → ((a : AttrId) → Contains synthesized a ↔ IsBitSet only_synthesized a.0) → IsStrictlyIncreasing (map (λ (a : AttrId). a.0) synthesized)
+      → ((j : ℕ) → IsBitSet only_inherited j ↔ (IsBitSet levels.both j × (IsBitSet levels.synthesized j → ⊥))) → ((a : AttrId) → Contains inherited a ↔ IsBitSet only_inherited a.0) → IsStrictlyIncreasing (map (λ (a : AttrId). a.0) inherited)
       → (j : ℕ) → AreLevels symbols rules x j levels → IsClass symbols rules x (2 * j) synthesized × IsClass symbols rules x (2 * j + 1) inherited
-  visit-is n levels synthesized inherited count same ascends same' ascends' j are = (
-    class-is (2 * j) n levels.synthesized levels.later synthesized are.later are.synthesized count same ascends,
-    class-is (2 * j + 1) n levels.both levels.synthesized inherited are.synthesized (let e : 2 * j + 2 ≡ 2 * j + 1 + 1 = omega arith in subst (λ k. ArePeeled symbols rules x k levels.both) e are.both) count same' ascends',
+  visit-is levels only_synthesized only_inherited synthesized inherited beside same ascends beside' same' ascends' j are = (
+    class-is (2 * j) levels.synthesized levels.later only_synthesized synthesized are.later are.synthesized beside same ascends,
+    class-is (2 * j + 1) levels.both levels.synthesized only_inherited inherited are.synthesized (let e : 2 * j + 2 ≡ 2 * j + 1 + 1 = omega arith in subst (λ k. ArePeeled symbols rules x k levels.both) e are.both) beside' same' ascends',
   )
 
   pub classes-push : (visits new : List VisitClass) (i : ℕ) (visit : VisitClass) → length visits ≡ i → new ≡ visits ++ (visit ∷ [])

@@ -9,11 +9,10 @@ use Rattle.lido_base.specs.declared.ids.SymId.{SymId}
 use Rattle.flat_grammar.specs.declared.flat.Occ.{Occ}
 use Rattle.flat_grammar.specs.declared.flat.FlatRule.{FlatRule}
 use Rattle.flat_grammar.specs.Rules.{symbol_at}
-use Rattle.flat_grammar.proofs.Lists.{held}
-use Rattle.partitions.specs.declared.direct.DirectEdge.{DirectEdge}
+use Rattle.flat_grammar.proofs.Lists.{held, contains-slice_get, slice_get-contains}
 use Rattle.partitions.specs.Symbols.{rows_at}
 use Rattle.partitions.specs.Graph.{IsEdge}
-use Rattle.partitions.specs.RuleGraph.{IsComing, IsNumberOf, IsComingAt, IsDirectAmong}
+use Rattle.partitions.specs.RuleGraph.{IsComing, IsNumberOf, IsComingAt, IsPairAt, IsAmongAt}
 use Rattle.partitions.proofs.PeelingLemmas.{pushed-get, below-length, get-below}
 use Rattle.partitions.proofs.ClassesLemmas.{pushed-contains, contains-pushed}
 
@@ -48,13 +47,13 @@ module _ (ids later : List ℕ) (start b : ℕ) where
     ]),
   ))
 
-  pub coming-at : (n d e : ℕ) → n < length ids → n < length later → IsBitSet (get_or ids n d) b ⊎ IsBitSet (get_or later n e) b → IsComing ids later n b
-  coming-at n d e l k (inl bit) = inl (get_or ids n d, slice_get-get_or ids n d l, bit)
-  coming-at n d e l k (inr bit) = inr (get_or later n e, slice_get-get_or later n e k, bit)
+  pub coming-at : (n row more : ℕ) → slice_get ids n ≡ Some row → slice_get later n ≡ Some more → IsBitSet row b ⊎ IsBitSet more b → IsComing ids later n b
+  coming-at n row more at at' (inl bit) = inl (row, at, bit)
+  coming-at n row more at at' (inr bit) = inr (more, at', bit)
 
-  pub coming-of : (n d e : ℕ) → n < length ids → n < length later → IsComing ids later n b → IsBitSet (get_or ids n d) b ⊎ IsBitSet (get_or later n e) b
-  coming-of n d e l k (inl (row, at, bit)) = inl (subst (λ r. IsBitSet r b) (held (sym at ∙ slice_get-get_or ids n d l)) bit)
-  coming-of n d e l k (inr (row, at, bit)) = inr (subst (λ r. IsBitSet r b) (held (sym at ∙ slice_get-get_or later n e k)) bit)
+  pub coming-of : (n row more : ℕ) → slice_get ids n ≡ Some row → slice_get later n ≡ Some more → IsComing ids later n b → IsBitSet row b ⊎ IsBitSet more b
+  coming-of n row more at at' (inl (other, got, bit)) = inl (subst (λ r. IsBitSet r b) (held (sym got ∙ at)) bit)
+  coming-of n row more at at' (inr (other, got, bit)) = inr (subst (λ r. IsBitSet r b) (held (sym got ∙ at')) bit)
 
   pub coming-below : length ids ≡ length later → (a : ℕ) → IsComing ids later a b → a < length ids
   coming-below each a (inl (row, at, bit)) = below-length ids a row at
@@ -92,36 +91,53 @@ module _ (r : FlatRule) (ids later : List (List ℕ)) (starts : List ℕ) (occs 
         (got.0, got.1, (h.2 u).1 (subst (λ (p : Occ). IsComingAt r ids later starts p u) (held (sym at ∙ h.1)) c))),
   )
 
-module _ (starts : List ℕ) (edges : List DirectEdge) (old : List (List ℕ)) where
-  -- the edges of the first of the direct dependencies are added
+-- Edges that are added for each item of a list.
+module _ {X : Type 0} (R : X → ℕ → ℕ → Type 0) (xs : List X) (old : List (List ℕ)) where
+  -- those of the first items are added
   abbrev pub AreAdded : ℕ → List (List ℕ) → Type 0
-  AreAdded i preds = (u v : ℕ) → IsEdge preds u v ↔ (IsEdge old u v ⊎ ((j : ℕ) × (e : DirectEdge) × (j < i) × (slice_get edges j ≡ Some e) × IsNumberOf starts e.from u × IsNumberOf starts e.to v))
+  AreAdded i preds = (u v : ℕ) → IsEdge preds u v ↔ (IsEdge old u v ⊎ ((j : ℕ) × (x : X) × (j < i) × (slice_get xs j ≡ Some x) × R x u v))
 
-  same_number : (o : Occ) (m n : ℕ) → IsNumberOf starts o m → IsNumberOf starts o n → m ≡ n
-  same_number o m n (s, at, e) (t, at', f) = let same : s ≡ t = held (sym at ∙ at') in omega arith
-
-  pub added-push : (i : ℕ) (preds new : List (List ℕ)) (e : DirectEdge) (u v : ℕ) → AreAdded i preds → slice_get edges i ≡ Some e → IsNumberOf starts e.from u → IsNumberOf starts e.to v
-      → ((a b : ℕ) → IsEdge new a b ↔ (IsEdge preds a b ⊎ ((a ≡ u) × (b ≡ v)))) → AreAdded (i + 1) new
-  added-push i preds new e u v are at from to added a b = (fore, back)
+  pub added-push : (i : ℕ) (preds new : List (List ℕ)) (x : X) → AreAdded i preds → slice_get xs i ≡ Some x → ((u v : ℕ) → IsEdge new u v ↔ (IsEdge preds u v ⊎ R x u v)) → AreAdded (i + 1) new
+  added-push i preds new x are at added u v = (fore, back)
     where
-      fore : IsEdge new a b → IsEdge old a b ⊎ ((j : ℕ) × (f : DirectEdge) × (j < i + 1) × (slice_get edges j ≡ Some f) × IsNumberOf starts f.from a × IsNumberOf starts f.to b)
-      fore edge = elim ((added a b).0 edge) [
-        | inl before ↦ elim ((are a b).0 before) [ inl first ↦ inl first | inr h ↦ inr (let l = h.2 in (h.0, h.1, (omega arith), h.3, h.4, h.5)) ]
-        | inr here ↦ inr (i, e, (omega arith), at, subst (λ n. IsNumberOf starts e.from n) (sym here.0) from, subst (λ n. IsNumberOf starts e.to n) (sym here.1) to)
+      fore : IsEdge new u v → IsEdge old u v ⊎ ((j : ℕ) × (y : X) × (j < i + 1) × (slice_get xs j ≡ Some y) × R y u v)
+      fore edge = elim ((added u v).0 edge) [
+        | inl before ↦ elim ((are u v).0 before) [ inl first ↦ inl first | inr h ↦ inr (let l = h.2 in (h.0, h.1, (omega arith), h.3, h.4)) ]
+        | inr here ↦ inr (i, x, (omega arith), at, here)
       ]
 
-      back : IsEdge old a b ⊎ ((j : ℕ) × (f : DirectEdge) × (j < i + 1) × (slice_get edges j ≡ Some f) × IsNumberOf starts f.from a × IsNumberOf starts f.to b) → IsEdge new a b
-      back (inl first) = (added a b).1 (inl ((are a b).1 (inl first)))
-      back (inr (j, f, l, got, m, n)) = elim (cases_lt j i) [
-        | inl below ↦ (added a b).1 (inl ((are a b).1 (inr (j, f, below, got, m, n))))
-        | inr g ↦
-            let same : j ≡ i = omega arith in
-            let edge : f ≡ e = held (sym got ∙ ap (λ k. slice_get edges k) same ∙ at) in
-            (added a b).1 (inr (same_number e.from a u (subst (λ (d : DirectEdge). IsNumberOf starts d.from a) edge m) from, same_number e.to b v (subst (λ (d : DirectEdge). IsNumberOf starts d.to b) edge n) to))
+      back : IsEdge old u v ⊎ ((j : ℕ) × (y : X) × (j < i + 1) × (slice_get xs j ≡ Some y) × R y u v) → IsEdge new u v
+      back (inl first) = (added u v).1 (inl ((are u v).1 (inl first)))
+      back (inr (j, y, l, got, h)) = elim (cases_lt j i) [
+        | inl below ↦ (added u v).1 (inl ((are u v).1 (inr (j, y, below, got, h))))
+        | inr g ↦ let same : j ≡ i = omega arith in (added u v).1 (inr (subst (λ (z : X). R z u v) (held (sym got ∙ ap (λ k. slice_get xs k) same ∙ at)) h))
       ]
 
-  pub added-all : (i : ℕ) (preds : List (List ℕ)) → AreAdded i preds → length edges ≤ i → (u v : ℕ) → IsEdge preds u v ↔ (IsEdge old u v ⊎ IsDirectAmong starts edges u v)
+  pub added-all : (i : ℕ) (preds : List (List ℕ)) → AreAdded i preds → length xs ≤ i → (u v : ℕ) → IsEdge preds u v ↔ (IsEdge old u v ⊎ ((x : X) × Contains xs x × R x u v))
   added-all i preds are all u v = (
-    (λ edge. elim ((are u v).0 edge) [ inl first ↦ inl first | inr h ↦ inr (h.0, h.1, h.3, h.4, h.5) ]),
-    (λ either. elim either [ inl first ↦ (are u v).1 (inl first) | inr h ↦ (are u v).1 (inr (let l = below-length edges h.0 h.1 h.2 in (h.0, h.1, (omega arith), h.2, h.3, h.4))) ]),
+    (λ edge. elim ((are u v).0 edge) [ inl first ↦ inl first | inr h ↦ inr (h.1, contains-slice_get xs h.0 h.1 h.3, h.4) ]),
+    (λ either. elim either [
+      | inl first ↦ (are u v).1 (inl first)
+      | inr h ↦ (are u v).1 (inr (let got = slice_get-contains xs h.0 h.1 in let l = below-length xs got.0 h.0 got.1 in (got.0, h.0, (omega arith), got.1, h.2)))
+    ]),
   )
+
+same_number : (starts : List ℕ) (o : Occ) (m n : ℕ) → IsNumberOf starts o m → IsNumberOf starts o n → m ≡ n
+same_number starts o m n (s, at, e) (t, at', f) = let same : s ≡ t = held (sym at ∙ at') in omega arith
+
+-- an attribute occurrence has one number
+pub pair-is : (starts : List ℕ) (o p : Occ) (u v : ℕ) → IsNumberOf starts o u → IsNumberOf starts p v → (a b : ℕ) → ((a ≡ u) × (b ≡ v)) ↔ IsPairAt starts o p a b
+pair-is starts o p u v from to a b = (
+  (λ h. (subst (λ n. IsNumberOf starts o n) (sym h.0) from, subst (λ n. IsNumberOf starts p n) (sym h.1) to)),
+  (λ h. (same_number starts o a u h.0 from, same_number starts p b v h.1 to)),
+)
+
+pub or-same : {A B C : Type 0} → B ↔ C → (A ⊎ B) ↔ (A ⊎ C)
+or-same f = (λ either. elim either [ inl a ↦ inl a | inr b ↦ inr (f.0 b) ], λ either. elim either [ inl a ↦ inl a | inr c ↦ inr (f.1 c) ])
+
+-- the same attribute occurrences in another list
+pub same-members : (starts : List ℕ) (xs ys zs : List Occ) (to : Occ) → xs ≡ ys → ((o : Occ) → Contains ys o ↔ Contains zs o) → (u v : ℕ) → IsAmongAt starts xs to u v ↔ IsAmongAt starts zs to u v
+same-members starts xs ys zs to e same u v = (
+  (λ (o, m, h). (o, (same o).0 (subst (λ (l : List Occ). Contains l o) e m), h)),
+  (λ (o, m, h). (o, subst (λ (l : List Occ). Contains l o) (sym e) ((same o).1 m), h)),
+)

@@ -3,7 +3,6 @@ pub mod ClassesLemmas
 pub mod SymbolsLemmas
 pub mod SearchLemmas
 pub mod CycleLemmas
-pub mod ReadsLemmas
 pub mod VerticesLemmas
 pub mod EdgesLemmas
 pub mod ExtendedLemmas

@@ -1,5 +1,5 @@
 -- Sets of a symbol's attributes as bits: one class more, one pair of classes more, no more ever.
-use Rattle.std.specs.Prelude.{IsBitSet, Contains, slice_get, All, IsSome, ◌*◌, option_and_then}
+use Rattle.std.specs.Prelude.{IsBitSet, Contains, slice_get, All, IsSome, ◌*◌, ◌-◌, ◌^◌, option_and_then}
 use Rattle.std.proofs.Common.{◌≡◌, ℕ, zero, suc, ◌+◌, ◌<◌, ◌≤◌, ◌⊎◌, inl, inr, ◌↔◌, List, [], ◌∷◌, ◌++◌, length, Option, Some, None, get_or, refl, sym, ap, subst, ◌∙◌, arith}
 use Rattle.std.proofs.lemmas.Option.{none-some, slice_get-get_or}
 use Rattle.std.proofs.lemmas.Bool.{cases_lt}
@@ -16,7 +16,9 @@ use Rattle.flat_grammar.specs.Partition.{IsPeeled, HasKind, IsClosedSet, kind_of
 use Rattle.flat_grammar.proofs.Lists.{contains-nil, contains-cons, contains-first, contains-later, held}
 use Rattle.partitions.specs.declared.peeling.Levels.{Levels}
 use Rattle.partitions.specs.Peeling.{AreRows, ArePeeled, AreLevels, AreAllLevels, IsLast, IsKept}
-use Rattle.flat_grammar.proofs.BitsLemmas.{is-set, empty-set, within-le}
+use Rattle.std.proofs.lemmas.Nat.Bits.{bit_at_ones}
+use Rattle.flat_grammar.proofs.BitsLemmas.{is-set, empty-set, within-le, set-of}
+use Rattle.flat_grammar.proofs.PeelingLemmas.{IDS-transitive, even-kind, odd-kind, closed-more, last-pair}
 
 -- A set of the numbers below i with a property, found one by one.
 module _ (P : ℕ → Type 0) where
@@ -89,28 +91,20 @@ module _ (symbols : List FlatSymbol) where
       go None = refl
       go (Some s) = refl
 
-  pub attributes-few : (x : SymId) → All (λ (s : FlatSymbol). length s.attrs ≤ 128) symbols → length (attrs_of symbols x) ≤ 128
+  pub attributes-few : (x : SymId) → All (λ (s : FlatSymbol). length s.attrs ≤ 256) symbols → length (attrs_of symbols x) ≤ 256
   attributes-few x few = go (slice_get symbols x.0) refl
     where
-      at : (ys : List FlatSymbol) (k : ℕ) (s : FlatSymbol) → slice_get ys k ≡ Some s → All (λ (s : FlatSymbol). length s.attrs ≤ 128) ys → length s.attrs ≤ 128
+      at : (ys : List FlatSymbol) (k : ℕ) (s : FlatSymbol) → slice_get ys k ≡ Some s → All (λ (s : FlatSymbol). length s.attrs ≤ 256) ys → length s.attrs ≤ 256
       at [] k s e h = absurd (none-some _ e)
-      at (y ∷ ys) zero s e h = subst (λ (t : FlatSymbol). length t.attrs ≤ 128) (held e) (h 0 y (omega arith))
+      at (y ∷ ys) zero s e h = subst (λ (t : FlatSymbol). length t.attrs ≤ 256) (held e) (h 0 y (omega arith))
       at (y ∷ ys) (suc k) s e h = at ys k s e (λ i d l. h (suc i) d (omega arith))
 
-      go : (o : Option FlatSymbol) → slice_get symbols x.0 ≡ o → length {A = FlatAttr} (elim o [ None ↦ [] | Some s ↦ s.attrs ]) ≤ 128
+      go : (o : Option FlatSymbol) → slice_get symbols x.0 ≡ o → length {A = FlatAttr} (elim o [ None ↦ [] | Some s ↦ s.attrs ]) ≤ 256
       go None e = omega arith
       go (Some s) e = at symbols x.0 s e few
 
-pub even-kind : (j : ℕ) → kind_of_class (2 * j) ≡ Synthesized
-even-kind zero = refl
-even-kind (suc j) = let e : 2 * suc j ≡ suc (suc (2 * j)) = omega arith in subst (λ k. kind_of_class k ≡ Synthesized) (sym e) (even-kind j)
-
-pub odd-kind : (j : ℕ) → kind_of_class (suc (2 * j)) ≡ Inherited
-odd-kind zero = refl
-odd-kind (suc j) = let e : suc (2 * suc j) ≡ suc (suc (suc (2 * j))) = omega arith in subst (λ k. kind_of_class k ≡ Inherited) (sym e) (odd-kind j)
-
 module _ (symbols : List FlatSymbol) (rules : List FlatRule) (x : SymId) where
-  has-attribute : (kind : Kind) (a : AttrId) → HasKind symbols rules x kind a → IsSome (attribute_at symbols x a)
+  has-attribute : (kind : Kind) (a : AttrId) → HasKind symbols x kind a → IsSome (attribute_at symbols x a)
   has-attribute kind a h = subst (λ (o : Option FlatAttr). IsSome o) (sym h.1) refl
 
   pub peeled-attribute : (k : ℕ) (a : AttrId) → IsPeeled symbols rules x k a → IsSome (attribute_at symbols x a)
@@ -128,14 +122,10 @@ module _ (symbols : List FlatSymbol) (rules : List FlatRule) (x : SymId) where
   pub attribute-some : (a : AttrId) → a.0 < length (attrs_of symbols x) → IsSome (attribute_at symbols x a)
   attribute-some a h = let got = get-below (attrs_of symbols x) a.0 h in subst (λ (o : Option FlatAttr). IsSome o) (sym (attribute-get symbols x a ∙ got.1)) refl
 
-  -- a closed set stays closed where more is peeled
-  pub closed-more : (P Q : AttrId → Type 0) (kind : Kind) (set : List AttrId) → ((a : AttrId) → P a → Q a) → IsClosedSet symbols rules x P kind set → IsClosedSet symbols rules x Q kind set
-  closed-more P Q kind set more closed a m = ((closed a m).0, λ b d. elim ((closed a m).1 b d) [ inl p ↦ inl (more b p) | inr q ↦ inr q ])
-
-  module _ (few : length (attrs_of symbols x) ≤ 128) where
+  module _ (few : length (attrs_of symbols x) ≤ 256) where
     -- one class more
     pub class-step : (kind : Kind) (k peeled set result : ℕ) → kind_of_class k ≡ kind → ArePeeled symbols rules x k peeled
-        → ((a : AttrId) → IsBitSet set a.0 → HasKind symbols rules x kind a × ((b : AttrId) → IDS rules x a b → IsBitSet peeled b.0 ⊎ IsBitSet set b.0))
+        → ((a : AttrId) → IsBitSet set a.0 → HasKind symbols x kind a × ((b : AttrId) → IDS rules x a b → IsBitSet peeled b.0 ⊎ IsBitSet set b.0))
         → ((xs : List AttrId) → IsClosedSet symbols rules x (λ b. IsBitSet peeled b.0) kind xs → (a : AttrId) → Contains xs a → IsBitSet set a.0)
         → ((j : ℕ) → IsBitSet result j ↔ (IsBitSet peeled j ⊎ IsBitSet set j)) → ArePeeled symbols rules x (suc k) result
     class-step kind k peeled set result e old closed greatest union a = (to, from)
@@ -143,31 +133,47 @@ module _ (symbols : List FlatSymbol) (rules : List FlatRule) (x : SymId) where
         to : IsPeeled symbols rules x (suc k) a → IsBitSet result a.0
         to (inl p) = (union a.0).1 (inl ((old a).0 p))
         to (inr (xs, m, c)) = (union a.0).1 (inr (greatest xs (subst (λ z. IsClosedSet symbols rules x (λ b. IsBitSet peeled b.0) z xs) e
-            (closed-more (IsPeeled symbols rules x k) (λ b. IsBitSet peeled b.0) (kind_of_class k) xs (λ b p. (old b).0 p) c)) a m))
+            (closed-more symbols rules x (IsPeeled symbols rules x k) (λ b. IsBitSet peeled b.0) (kind_of_class k) xs (λ b p. (old b).0 p) c)) a m))
 
-        inside : (b : AttrId) → IsBitSet set b.0 → Contains (members set 128) b
-        inside b h = in-members set 128 b (let l = attribute-below b (has-attribute kind b (closed b h).0) in omega arith) h
+        inside : (b : AttrId) → IsBitSet set b.0 → Contains (members set 256) b
+        inside b h = in-members set 256 b (let l = attribute-below b (has-attribute kind b (closed b h).0) in omega arith) h
 
         from : IsBitSet result a.0 → IsPeeled symbols rules x (suc k) a
         from h = elim ((union a.0).0 h) [
           | inl p ↦ inl ((old a).1 p)
           | inr s ↦ inr (
-            members set 128,
+            members set 256,
             inside a s,
-            λ b m. let c = closed b (of-members set 128 b m) in
-                (subst (λ z. HasKind symbols rules x z b) (sym e) c.0, λ d i. elim (c.1 d i) [ inl p ↦ inl ((old d).1 p) | inr q ↦ inr (inside d q) ]),
+            λ b m. let c = closed b (of-members set 256 b m) in
+                (subst (λ z. HasKind symbols x z b) (sym e) c.0, λ d i. elim (c.1 d i) [ inl p ↦ inl ((old d).1 p) | inr q ↦ inr (inside d q) ]),
           )
         ]
 
-  -- each closed set lies within what is kept of a set that it lies within
-  pub kept-greatest : (rows : List ℕ) (kind : Kind) (peeled old new : ℕ) → AreRows symbols rules x rows → ((j : ℕ) → IsBitSet new j ↔ IsKept rows old peeled j)
-      → ((xs : List AttrId) → IsClosedSet symbols rules x (λ b. IsBitSet peeled b.0) kind xs → (a : AttrId) → Contains xs a → IsBitSet old a.0)
-      → (xs : List AttrId) → IsClosedSet symbols rules x (λ b. IsBitSet peeled b.0) kind xs → (a : AttrId) → Contains xs a → IsBitSet new a.0
-  kept-greatest rows kind peeled old new are kept greatest xs closed a m =
-      let below = attribute-below a (has-attribute kind a (closed a m).0) in
-      let each = are.each in
-      let got = get-below rows a.0 (omega arith) in
-      (kept a.0).1 (greatest xs closed a m, got.0, got.1, λ b bit. let d : AttrId = record { 0 = b } in elim ((closed a m).1 d ((are.bits a d got.0 got.1).0 bit)) [ inl p ↦ inl p | inr q ↦ inr (greatest xs closed d q) ])
+  module _ (rows : List ℕ) (kind : Kind) (peeled of_kind result : ℕ) (are : AreRows symbols rules x rows) (kinds : (a : AttrId) → IsBitSet of_kind a.0 ↔ HasKind symbols x kind a) (kept : (j : ℕ) → IsBitSet result j ↔ IsKept rows of_kind peeled j) where
+    row-of : (a : AttrId) → HasKind symbols x kind a → (row : ℕ) × (slice_get rows a.0 ≡ Some row)
+    row-of a h = let below = attribute-below a (has-attribute kind a h) in let each = are.each in get-below rows a.0 (omega arith)
+
+    -- what is kept is closed: a successor that is not peeled has none but those of the first
+    pub kept-closed : (a : AttrId) → IsBitSet result a.0 → HasKind symbols x kind a × ((b : AttrId) → IDS rules x a b → IsBitSet peeled b.0 ⊎ IsBitSet result b.0)
+    kept-closed a bit = ((kinds a).0 first.0, λ b d. elim (first.3 b.0 ((are.bits a b first.1 first.2).1 d)) [ inl p ↦ inl p | inr q ↦ inr ((kept b.0).1 (again b d q)) ])
+      where
+        first : IsKept rows of_kind peeled a.0
+        first = (kept a.0).0 bit
+
+        again : (b : AttrId) → IDS rules x a b → IsBitSet of_kind b.0 → IsKept rows of_kind peeled b.0
+        again b d q = let got = row-of b ((kinds b).0 q) in
+            (q, got.0, got.1, λ n m. let e : AttrId = record { 0 = n } in first.3 n ((are.bits a e first.1 first.2).1 (IDS-transitive rules d ((are.bits b e got.0 got.1).0 m))))
+
+    -- each closed set lies within what is kept
+    pub kept-greatest : (xs : List AttrId) → IsClosedSet symbols rules x (λ b. IsBitSet peeled b.0) kind xs → (a : AttrId) → Contains xs a → IsBitSet result a.0
+    kept-greatest xs closed a m =
+        let got = row-of a (closed a m).0 in
+        (kept a.0).1 (
+          (kinds a).1 (closed a m).0,
+          got.0,
+          got.1,
+          λ b bit. let d : AttrId = record { 0 = b } in elim ((closed a m).1 d ((are.bits a d got.0 got.1).0 bit)) [ inl p ↦ inl p | inr q ↦ inr ((kinds d).1 (closed d q).0) ],
+        )
 
   -- one pair of classes more
   pub levels-step : (j : ℕ) (levels : Levels) → ArePeeled symbols rules x (2 * j) levels.later → (kind_of_class (2 * j) ≡ Synthesized → ArePeeled symbols rules x (suc (2 * j)) levels.synthesized)
@@ -181,30 +187,16 @@ module _ (symbols : List FlatSymbol) (rules : List FlatRule) (x : SymId) where
         both = subst (λ k. ArePeeled symbols rules x k levels.both) second (both (odd-kind j) (synthesized (even-kind j)));
       }
 
-  -- a pair of classes without attributes is the last
-  pub last-pair : (n : ℕ) → ((a : AttrId) → IsPeeled symbols rules x (suc (suc (2 * n))) a → IsPeeled symbols rules x (2 * n) a) → IsLast symbols rules x (2 * n)
-  last-pair n stays k a h = up k a h
-    where
-      one : (kind : Kind) (xs : List AttrId) → IsClosedSet symbols rules x (IsPeeled symbols rules x (2 * n)) kind xs → (a : AttrId) → Contains xs a → IsPeeled symbols rules x (2 * n) a
-      one Synthesized xs c a m = stays a (inl (inr (xs, m, subst (λ kind. IsClosedSet symbols rules x (IsPeeled symbols rules x (2 * n)) kind xs) (sym (even-kind n)) c)))
-      one Inherited xs c a m = stays a (inr (
-        xs,
-        m,
-        subst (λ kind. IsClosedSet symbols rules x (IsPeeled symbols rules x (suc (2 * n))) kind xs) (sym (odd-kind n))
-            (closed-more (IsPeeled symbols rules x (2 * n)) (IsPeeled symbols rules x (suc (2 * n))) Inherited xs (λ b p. inl p) c),
-      ))
-
-      up : (k : ℕ) (a : AttrId) → IsPeeled symbols rules x k a → IsPeeled symbols rules x (2 * n) a
-      up zero a h = absurd h
-      up (suc k) a (inl h) = up k a h
-      up (suc k) a (inr (xs, m, c)) = one (kind_of_class k) xs (closed-more (IsPeeled symbols rules x k) (IsPeeled symbols rules x (2 * n)) (kind_of_class k) xs (up k) c) a m
-
-  pub last-levels : (n : ℕ) (levels : Levels) → AreLevels symbols rules x n levels → levels.both ≡ levels.later → IsLast symbols rules x (2 * n)
-  last-levels n levels are same = last-pair n (λ a h. (are.later a).1 (subst (λ set. IsBitSet set a.0) same ((are.both a).0 (let e : suc (suc (2 * n)) ≡ 2 * n + 2 = omega arith in subst (λ k. IsPeeled symbols rules x k a) e h))))
+  pub last-levels : (n : ℕ) (levels : Levels) → AreLevels symbols rules x n levels → ((j : ℕ) → IsBitSet levels.both j → IsBitSet levels.later j) → IsLast symbols rules x (2 * n)
+  last-levels n levels are within = last-pair symbols rules x n (λ a h. (are.later a).1 (within a.0 ((are.both a).0 (let e : suc (suc (2 * n)) ≡ 2 * n + 2 = omega arith in subst (λ k. IsPeeled symbols rules x k a) e h))))
 
   -- where a pair of classes has attributes, not all were peeled before it
-  pub not-all : (n : ℕ) (levels : Levels) → AreLevels symbols rules x n levels → levels.later ≤ levels.both → (levels.both ≡ levels.later → ⊥) → PeelsAll symbols rules x (2 * n) → ⊥
-  not-all n levels are grows other all = other (let p = within-le levels.both levels.later (λ j h. let a : AttrId = record { 0 = j } in (are.later a).0 (all a (peeled-attribute (2 * n + 2) a ((are.both a).1 h)))) in omega arith)
+  pub not-all : (n : ℕ) (levels : Levels) → AreLevels symbols rules x n levels → (((j : ℕ) → IsBitSet levels.both j → IsBitSet levels.later j) → ⊥) → PeelsAll symbols rules x (2 * n) → ⊥
+  not-all n levels are other all = other (λ j h. let a : AttrId = record { 0 = j } in (are.later a).0 (all a (peeled-attribute (2 * n + 2) a ((are.both a).1 h))))
+
+  -- sets of attributes are below 2 ^ 256
+  pub small-set : length (attrs_of symbols x) ≤ 256 → (k set : ℕ) → ArePeeled symbols rules x k set → set < 2 ^ 256
+  small-set few k set are = let p = within-le set (2 ^ 256 - 1) (λ j h. set-of (2 ^ 256 - 1) j (bit_at_ones 256 j (let a : AttrId = record { 0 = j } in let b = attribute-below a (peeled-attribute k a ((are a).1 h)) in omega arith))) in omega arith
 
   pub nothing-peeled : ArePeeled symbols rules x (2 * 0) 0
   nothing-peeled a = (λ h. absurd h, λ h. absurd (empty-set a.0 h))
@@ -212,11 +204,11 @@ module _ (symbols : List FlatSymbol) (rules : List FlatRule) (x : SymId) where
   pub next-level : (n : ℕ) (set : ℕ) → ArePeeled symbols rules x (2 * n + 2) set → ArePeeled symbols rules x (2 * (n + 1)) set
   next-level n set are = let e : 2 * n + 2 ≡ 2 * (n + 1) = omega arith in subst (λ k. ArePeeled symbols rules x k set) e are
 
-  pub fewest-step : (n m : ℕ) (levels : Levels) → AreLevels symbols rules x n levels → levels.later ≤ levels.both → (levels.both ≡ levels.later → ⊥) → m ≡ n + 1
+  pub fewest-step : (n m : ℕ) (levels : Levels) → AreLevels symbols rules x n levels → (((j : ℕ) → IsBitSet levels.both j → IsBitSet levels.later j) → ⊥) → m ≡ n + 1
       → ((k : ℕ) → 0 < k → k < n → PeelsAll symbols rules x (2 * k) → ⊥) → (k : ℕ) → 0 < k → k < m → PeelsAll symbols rules x (2 * k) → ⊥
-  fewest-step n m levels are grows other e before k positive below all = elim (cases_lt k n) [
+  fewest-step n m levels are other e before k positive below all = elim (cases_lt k n) [
     | inl l ↦ before k positive l all
-    | inr g ↦ not-all n levels are grows other (let same : k ≡ n = omega arith in subst (λ i. PeelsAll symbols rules x (2 * i)) same all)
+    | inr g ↦ not-all n levels are other (let same : k ≡ n = omega arith in subst (λ i. PeelsAll symbols rules x (2 * i)) same all)
   ]
 
   pub levels-push : (all new : List Levels) (n : ℕ) (levels : Levels) → AreAllLevels symbols rules x all → n ≡ length all → AreLevels symbols rules x n levels → new ≡ all ++ (levels ∷ []) → AreAllLevels symbols rules x new
@@ -227,23 +219,23 @@ module _ (symbols : List FlatSymbol) (rules : List FlatRule) (x : SymId) where
       go (inr new) = subst (λ (l : Levels). AreLevels symbols rules x j l) new.1 (let same : n ≡ j = omega (arith, new.0) in subst (λ i. AreLevels symbols rules x i levels) same are)
 
   -- the attribute at a place has the kind
-  pub kind-at : (kind : Kind) (attrs : List FlatAttr) (i : ℕ) (d : FlatAttr) → attrs ≡ attrs_of symbols x → i < length attrs → (get_or attrs i d).kind ≡ kind → HasKind symbols rules x kind (record { 0 = i })
+  pub kind-at : (kind : Kind) (attrs : List FlatAttr) (i : ℕ) (d : FlatAttr) → attrs ≡ attrs_of symbols x → i < length attrs → (get_or attrs i d).kind ≡ kind → HasKind symbols x kind (record { 0 = i })
   kind-at kind attrs i d e h k = (get_or attrs i d, attribute-get symbols x (record { 0 = i }) ∙ ap (λ (xs : List FlatAttr). slice_get xs i) (sym e) ∙ slice_get-get_or attrs i d h, k)
 
-  pub kind-of : (kind : Kind) (attrs : List FlatAttr) (i : ℕ) (d : FlatAttr) → attrs ≡ attrs_of symbols x → i < length attrs → HasKind symbols rules x kind (record { 0 = i }) → (get_or attrs i d).kind ≡ kind
+  pub kind-of : (kind : Kind) (attrs : List FlatAttr) (i : ℕ) (d : FlatAttr) → attrs ≡ attrs_of symbols x → i < length attrs → HasKind symbols x kind (record { 0 = i }) → (get_or attrs i d).kind ≡ kind
   kind-of kind attrs i d e h (attr, at, k) =
       let same : get_or attrs i d ≡ attr = held (sym (slice_get-get_or attrs i d h) ∙ ap (λ (xs : List FlatAttr). slice_get xs i) e ∙ sym (attribute-get symbols x (record { 0 = i })) ∙ at) in
       ap (λ (a : FlatAttr). a.kind) same ∙ k
 
-  pub kind-below : (kind : Kind) (attrs : List FlatAttr) → attrs ≡ attrs_of symbols x → (j : ℕ) → HasKind symbols rules x kind (record { 0 = j }) → j < length attrs
+  pub kind-below : (kind : Kind) (attrs : List FlatAttr) → attrs ≡ attrs_of symbols x → (j : ℕ) → HasKind symbols x kind (record { 0 = j }) → j < length attrs
   kind-below kind attrs e j h = subst (λ (xs : List FlatAttr). j < length xs) (sym e) (attribute-below (record { 0 = j }) (has-attribute kind (record { 0 = j }) h))
 
 -- the row at a place is kept
-pub kept-at : (rows : List ℕ) (set allowed i d : ℕ) → i < length rows → IsBitSet set i → ((b : ℕ) → IsBitSet (get_or rows i d) b → IsBitSet allowed b ⊎ IsBitSet set b) → IsKept rows set allowed i
-kept-at rows set allowed i d h bit within = (bit, get_or rows i d, slice_get-get_or rows i d h, within)
+pub kept-at : (rows : List ℕ) (set allowed i row : ℕ) → slice_get rows i ≡ Some row → IsBitSet set i → ((b : ℕ) → IsBitSet row b → IsBitSet allowed b ⊎ IsBitSet set b) → IsKept rows set allowed i
+kept-at rows set allowed i row at bit within = (bit, row, at, within)
 
-pub kept-of : (rows : List ℕ) (set allowed i d : ℕ) → i < length rows → IsKept rows set allowed i → IsBitSet set i × ((b : ℕ) → IsBitSet (get_or rows i d) b → IsBitSet allowed b ⊎ IsBitSet set b)
-kept-of rows set allowed i d h (bit, row, at, within) = (bit, λ b in_row. within b (subst (λ r. IsBitSet r b) (held (sym (slice_get-get_or rows i d h) ∙ at)) in_row))
+pub kept-of : (rows : List ℕ) (set allowed i row : ℕ) → slice_get rows i ≡ Some row → IsKept rows set allowed i → IsBitSet set i × ((b : ℕ) → IsBitSet row b → IsBitSet allowed b ⊎ IsBitSet set b)
+kept-of rows set allowed i row at (bit, other, got, within) = (bit, λ b in_row. within b (subst (λ r. IsBitSet r b) (held (sym at ∙ got)) in_row))
 
 pub kept-below : (rows : List ℕ) (set allowed j : ℕ) → IsKept rows set allowed j → j < length rows
 kept-below rows set allowed j (bit, row, at, within) = below-length rows j row at

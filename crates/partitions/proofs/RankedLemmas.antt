@@ -21,7 +21,8 @@ use Rattle.flat_grammar.proofs.PartitionLemmas.{IsPeeled-grows}
 use Rattle.partitions.specs.Peeling.{IsLast}
 use Rattle.partitions.specs.Symbols.{IsAllPeeled, HasLast}
 use Rattle.partitions.specs.RuleGraph.{IsExtended, IsRanked}
-use Rattle.partitions.proofs.PeelingLemmas.{even-kind, odd-kind, below-length}
+use Rattle.flat_grammar.proofs.PeelingLemmas.{even-kind, odd-kind}
+use Rattle.partitions.proofs.PeelingLemmas.{below-length}
 use Rattle.partitions.proofs.SearchLemmas.{take-get}
 use Rattle.partitions.proofs.ExtendedLemmas.{induced-some}
 use Rattle.partitions.proofs.StepsLemmas.{ranked-acyclic}
@@ -31,18 +32,18 @@ module _ (symbols : List FlatSymbol) (rules : List FlatRule) (each_rule : All (I
   after-successors : (n : ℕ) → IsLast symbols rules x n → (a : AttrId) → IsSome (attribute_at symbols x a) → ((b : AttrId) → IDS rules x a b → IsPeeled symbols rules x n b) → IsPeeled symbols rules x n a
   after-successors n last a some successors = go (attribute_at symbols x a) refl some
     where
-      closed : (kind : Kind) (k : ℕ) → n ≤ k → kind_of_class k ≡ kind → HasKind symbols rules x kind a → IsPeeled symbols rules x n a
+      closed : (kind : Kind) (k : ℕ) → n ≤ k → kind_of_class k ≡ kind → HasKind symbols x kind a → IsPeeled symbols rules x n a
       closed kind k above e has = last (suc k) a (inr (
         a ∷ [],
         contains-first a [],
         λ b m. elim (contains-cons a b [] m) [
-          | inl same ↦ subst (λ (c : AttrId). HasKind symbols rules x (kind_of_class k) c × ((d : AttrId) → IDS rules x c d → IsPeeled symbols rules x k d ⊎ Contains (a ∷ []) d)) same
-              (subst (λ z. HasKind symbols rules x z a) (sym e) has, λ d p. inl (IsPeeled-grows symbols rules x k n d above (successors d p)))
+          | inl same ↦ subst (λ (c : AttrId). HasKind symbols x (kind_of_class k) c × ((d : AttrId) → IDS rules x c d → IsPeeled symbols rules x k d ⊎ Contains (a ∷ []) d)) same
+              (subst (λ z. HasKind symbols x z a) (sym e) has, λ d p. inl (IsPeeled-grows symbols rules x k n d above (successors d p)))
           | inr none ↦ absurd (contains-nil b none)
         ],
       ))
 
-      by : (kind : Kind) → HasKind symbols rules x kind a → IsPeeled symbols rules x n a
+      by : (kind : Kind) → HasKind symbols x kind a → IsPeeled symbols rules x n a
       by Synthesized has = closed Synthesized (2 * n) (omega arith) (even-kind n) has
       by Inherited has = closed Inherited (suc (2 * n)) (omega arith) (odd-kind n) has
 

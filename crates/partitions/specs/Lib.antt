@@ -2,6 +2,5 @@ pub mod Peeling
 pub mod Symbols
 pub mod Graph
 pub mod Search
-pub mod Reads
 pub mod RuleGraph
 pub mod Parts

@@ -1,6 +1,5 @@
 -- The extended dependencies of a rule as a graph over numbered vertices.
-use Rattle.std.specs.Prelude.{◌≡◌, ℕ, suc, ◌+◌, ◌<◌, ◌≤◌, ◌⊎◌, List, map, length, Some, slice_get, IsSome, IsBitSet}
-use Rattle.std.specs.List.{flat_map}
+use Rattle.std.specs.Prelude.{◌≡◌, ℕ, suc, ◌+◌, ◌<◌, ◌≤◌, ◌⊎◌, List, length, Some, slice_get, IsSome, IsBitSet, Contains}
 use Rattle.lido_base.specs.declared.ids.SymId.{SymId}
 use Rattle.flat_grammar.specs.declared.flat.Occ.{Occ}
 use Rattle.flat_grammar.specs.declared.flat.FlatSymbol.{FlatSymbol}
@@ -11,17 +10,8 @@ use Rattle.flat_grammar.specs.WellFormed.{attribute_of}
 use Rattle.flat_grammar.specs.Dependencies.{DP}
 use Rattle.flat_grammar.specs.declared.plan.CycleStep.{CycleStep}
 use Rattle.flat_grammar.specs.Cycles.{DS, EDP, IsAtMost}
-use Rattle.partitions.specs.declared.direct.DirectEdge.{DirectEdge}
 use Rattle.partitions.specs.Graph.{IsEdge}
 use Rattle.partitions.specs.Symbols.{rows_at}
-
--- what a computation depends on, each with its goal
-abbrev pub edges_of : FlatComp → List DirectEdge
-edges_of c = map (λ (u : Occ). record { from = u; to = c.goal }) (dependencies c)
-
--- the direct dependencies of a rule, by its computations
-abbrev pub direct_edges_of : FlatRule → List DirectEdge
-direct_edges_of r = flat_map edges_of r.comps
 
 -- the attribute occurrence comes before that of place a at occurrence k
 abbrev pub IsBefore : ℕ → ℕ → Occ → Type 0
@@ -63,9 +53,17 @@ abbrev pub IsComingAt : FlatRule → List (List ℕ) → List (List ℕ) → Lis
 IsComingAt r ids later starts o u = (x : SymId) × (symbol_at r o.occ ≡ Some x) × (start : ℕ) × (slice_get starts o.occ ≡ Some start)
     × (a : ℕ) × (u ≡ start + a) × IsComing (rows_at ids x.0) (rows_at later x.0) a o.attr.0
 
--- one of the direct dependencies leads from u to v
-abbrev pub IsDirectAmong : List ℕ → List DirectEdge → ℕ → ℕ → Type 0
-IsDirectAmong starts edges u v = (j : ℕ) × (e : DirectEdge) × (slice_get edges j ≡ Some e) × IsNumberOf starts e.from u × IsNumberOf starts e.to v
+-- the two attribute occurrences have these numbers
+abbrev pub IsPairAt : List ℕ → Occ → Occ → ℕ → ℕ → Type 0
+IsPairAt starts o p u v = IsNumberOf starts o u × IsNumberOf starts p v
+
+-- one of these attribute occurrences has the number u, and the goal the number v
+abbrev pub IsAmongAt : List ℕ → List Occ → Occ → ℕ → ℕ → Type 0
+IsAmongAt starts from to u v = (o : Occ) × Contains from o × IsPairAt starts o to u v
+
+-- one of these computations leads from u to v
+abbrev pub IsDirectBy : List ℕ → List FlatComp → ℕ → ℕ → Type 0
+IsDirectBy starts comps u v = (c : FlatComp) × Contains comps c × IsAmongAt starts (dependencies c) c.goal u v
 
 -- the place behind another in a circle of so many
 abbrev pub IsNextPlace : ℕ → ℕ → ℕ → Type 0

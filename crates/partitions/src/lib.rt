@@ -3,7 +3,6 @@
 
 mod classes;
 mod cycle;
-mod direct;
 mod edges;
 mod parts;
 mod peeling;

@@ -8,7 +8,7 @@ ghost use Rattle.partitions.specs.Parts.{HasCycle};
 use crate::rule_cycle::rule_cycle;
 use crate::symbols::partition_symbols;
 use flat_grammar::{Cycle, Deps, Flat, Parts};
-use lido_base::RuleId;
+use lido_base::{Memory, RuleId};
 use std::alloc::{AllocError, Global};
 
 /// Why there are no visits.
@@ -27,6 +27,17 @@ impl From<AllocError> for PartFault {
     ghost from_gives = { λ _ fault. fault ≡ Memory };
 
     fn from(_: AllocError) -> Self {
+        PartFault::Memory
+    }
+}
+
+impl From<Memory> for PartFault {
+    ghost use Rattle.std.specs.Prelude.{◌≡◌};
+    ghost use Rattle.partitions.specs.declared.parts.PartFault.TheVariants.{Memory as OutOfMemory};
+
+    ghost from_gives = { λ _ fault. fault ≡ OutOfMemory };
+
+    fn from(_: Memory) -> Self {
         PartFault::Memory
     }
 }

@@ -9,7 +9,7 @@ ghost use Rattle.partitions.specs.Symbols.{rows_at, IsAllPeeled, AreItsVisits, H
 
 use crate::classes::{later_rows, visits_of};
 use crate::peeling::peel;
-use flat_grammar::{Deps, Flat, VisitClass};
+use flat_grammar::{Bits, Deps, Flat, VisitClass};
 use lido_base::{List, SymId};
 use std::alloc::{AllocError, Global};
 
@@ -17,16 +17,16 @@ use std::alloc::{AllocError, Global};
 #[derive(Debug, Drop)]
 struct SymbolParts {
     visits: List<VisitClass>,
-    /// For each attribute those in later classes, by bits.
-    later: List<u128>,
+    /// For each attribute those in later classes.
+    later: List<Bits>,
 }
 
 /// The visits of all symbols.
 #[derive(Debug, Drop)]
 pub struct AllParts {
     pub visits: List<List<VisitClass>>,
-    /// For each symbol and attribute the attributes in later classes, by bits.
-    pub later: List<List<u128>>,
+    /// For each symbol and attribute the attributes in later classes.
+    pub later: List<List<Bits>>,
 }
 
 /// Whether the symbol is a nonterminal.
@@ -40,7 +40,7 @@ fn is_nonterminal(flat: &Flat, x: SymId) -> bool
 }
 
 /// The rows of a symbol, or none where there are none.
-pub fn rows_of(rows: &List<List<u128>>, x: SymId) -> &[u128]
+pub fn rows_of(rows: &List<List<Bits>>, x: SymId) -> &[Bits]
     ensures { result.now ≡ rows_at rows.now x.0 }
 {
     match rows.as_slice().get(x.0 as usize) {
@@ -54,7 +54,7 @@ fn partition_symbol(
     alloc: Global,
     flat: &Flat,
     x: SymId,
-    rows: &[u128],
+    rows: &[Bits],
 ) -> Result<SymbolParts, AllocError>
     requires { AreRows flat.now.symbols flat.now.rules x rows.now }
     ensures visits { IfOk result (λ parts. IsAllPeeled flat.now.symbols flat.now.rules x → AreItsVisits flat.now.symbols flat.now.rules x parts.visits) }
@@ -69,7 +69,7 @@ fn partition_symbol(
             later,
         });
     }
-    let visits = visits_of(alloc, flat, x, &all)?;
+    let visits = visits_of(alloc, &all)?;
     Ok(SymbolParts { visits, later })
 }
 

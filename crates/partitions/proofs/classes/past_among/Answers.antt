@@ -12,13 +12,14 @@ pub loop-levels-preserved : goal.loop-levels-preserved
 loop-levels-preserved c = λ b.
     let i = c.loop-levels.levels-index in
     let all = c.args.all.now in
-    let at : slice_get all i ≡ Some (get_or all i (record { later = 0; synthesized = 0; both = 0 })) = slice_get-get_or all i (record { later = 0; synthesized = 0; both = 0 }) c.loop-levels-test.true in (
+    let levels : Levels = c.levels-item.result in
+    let at : slice_get all i ≡ Some levels = slice_get-get_or all i levels c.loop-levels-test.true ∙ ap Some (sym c.levels-item.is) in (
       (λ bit. elim ((c.union-row.ensures.members b).0 bit) [
         | inl old ↦ (let h = (c.loop-levels.invariant b).0 old in let l = h.2 in (h.0, h.1, (omega arith), h.3, h.4))
-        | inr new ↦ (i, get_or all i _, (omega arith), at, (c.past.ensures b).0 new)
+        | inr new ↦ (i, levels, (omega arith), at, (c.past.ensures b).0 new)
       ]),
-      (λ (j, levels, l, got, past). (c.union-row.ensures.members b).1 (elim (cases_lt j i) [
-        | inl before ↦ inl ((c.loop-levels.invariant b).1 (j, levels, before, got, past))
+      (λ (j, other, l, got, past). (c.union-row.ensures.members b).1 (elim (cases_lt j i) [
+        | inl before ↦ inl ((c.loop-levels.invariant b).1 (j, other, before, got, past))
         | inr g ↦ inr ((c.past.ensures b).1 (let e : j ≡ i = omega arith in subst (λ (v : Levels). IsPast v c.args.k b) (held (sym got ∙ ap (λ n. slice_get all n) e ∙ at)) past))
       ])),
     )

@@ -1,5 +1,6 @@
-use Rattle.std.proofs.Common.{◌≡◌, ◌∙◌, refl, sym, ap, arith}
-use Rattle.std.specs.Prelude.{true, false}
+use Rattle.std.proofs.Common.{◌≡◌, ◌∙◌, Some, refl, sym, ap, arith}
+use Rattle.std.specs.Prelude.{true, false, slice_get}
+use Rattle.std.proofs.lemmas.Option.{slice_get-get_or}
 use Rattle.partitions.proofs.EdgesLemmas.{coming-push, coming-skip, coming-at, coming-of, coming-below}
 use Rattle.partitions.proofs.edges.coming.Goals.{then-is_in_one+in_ok-push, else-is_in_one}
 use Rattle.partitions.proofs.edges.coming.Goals as goal
@@ -8,11 +9,15 @@ pub loop-a-preserved : goal.loop-a-preserved
 loop-a-preserved c =
     let ids = c.args.ids.now in
     let later = c.args.later.now in
+    let row = c.index-ids-a.result in
+    let more = c.index-later-a.result in
+    let at : slice_get ids c.loop-a.a ≡ Some row = slice_get-get_or ids c.loop-a.a row c.loop-a-test.true ∙ ap Some (sym c.index-ids-a.is) in
+    let at_later : slice_get later c.loop-a.a ≡ Some more = slice_get-get_or later c.loop-a.a more (omega (arith, c.loop-a-test.true, c.requires.each)) ∙ ap Some (sym c.index-later-a.is) in
     elim c.if-is_in_one.branch [
       | then-is_in_one+in_ok-push w ↦ coming-push ids later c.args.start c.args.b c.loop-a.a c.loop-a.row.items c.if-is_in_one.row.items _ c.loop-a.invariant refl (ap (λ v. v.items) w.row-is ∙ w.in_ok-push.ensures.items)
-          (coming-at ids later c.args.start c.args.b c.loop-a.a 0 0 c.loop-a-test.true (omega (arith, c.loop-a-test.true, c.requires.each)) (c.is_in_one.ensures.0 w.if-is_in_one.true))
+          (coming-at ids later c.args.start c.args.b c.loop-a.a row more at at_later (c.is_in_one.ensures.0 w.if-is_in_one.true))
       | else-is_in_one w ↦ coming-skip ids later c.args.start c.args.b c.loop-a.a c.loop-a.row.items c.if-is_in_one.row.items c.loop-a.invariant (ap (λ v. v.items) w.row-is)
-          (λ h. let e : true ≡ false = sym (c.is_in_one.ensures.1 (coming-of ids later c.args.start c.args.b c.loop-a.a 0 0 c.loop-a-test.true (omega (arith, c.loop-a-test.true, c.requires.each)) h)) ∙ w.if-is_in_one.false in absurd (cc))
+          (λ h. let e : true ≡ false = sym (c.is_in_one.ensures.1 (coming-of ids later c.args.start c.args.b c.loop-a.a row more at at_later h)) ∙ w.if-is_in_one.false in absurd (cc))
     ]
 
 pub returns : goal.returns

@@ -5,13 +5,13 @@ use Rattle.partitions.specs.Peeling.{ArePeeled, AreAllLevels}
 use Rattle.partitions.proofs.peeling.peel.Given as goal
 
 -- the pairs so far, what is peeled with them, and that no fewer have all attributes
-abbrev pub invariant-loop-visit : goal.invariant-loop-visit
-invariant-loop-visit l = record {
+abbrev pub invariant-loop-x : goal.invariant-loop-x
+invariant-loop-x l = record {
   each : AreAllLevels l.flat.symbols l.flat.rules l.x l.all.items;
-  peeled : ArePeeled l.flat.symbols l.flat.rules l.x (2 * vec_len l.all) l.visit.both;
+  peeled : ArePeeled l.flat.symbols l.flat.rules l.x (2 * vec_len l.all) l.peeled;
   fewest : (k : ℕ) → 0 < k → k < vec_len l.all → PeelsAll l.flat.symbols l.flat.rules l.x (2 * k) → ⊥;
   one : 0 < vec_len l.all;
 }
 
-abbrev pub decreases-loop-visit : goal.decreases-loop-visit
-decreases-loop-visit l = 2 ^ 128 - l.visit.both
+abbrev pub decreases-loop-x : goal.decreases-loop-x
+decreases-loop-x l = 2 ^ 256 - l.peeled

@@ -1,17 +1,16 @@
-use Rattle.std.proofs.Common.{◌≡◌, ℕ, List, length, subst, ap, arith}
-use Rattle.std.specs.Prelude.{◌↔◌, ◌⊎◌}
+use Rattle.std.proofs.Common.{◌≡◌, ℕ, List, length, sym, subst, ap, arith, ◌∙◌}
+use Rattle.std.specs.Prelude.{◌↔◌, ◌⊎◌, Contains}
+use Rattle.flat_grammar.specs.declared.flat.FlatComp.{FlatComp}
 use Rattle.partitions.specs.Graph.{IsEdge}
-use Rattle.partitions.specs.RuleGraph.{IsNumberOf, IsDirectAmong}
-use Rattle.partitions.proofs.ExtendedLemmas.{same-lengths, few-rows, vertex-within, vertex-attribute, edge-within, edge-vertex, extended-graph}
+use Rattle.partitions.specs.RuleGraph.{IsNumberOf, IsDirectBy}
+use Rattle.partitions.proofs.ExtendedLemmas.{same-lengths, few-rows, vertex-within, vertex-attribute, dependency-within, goal-within, goal-vertex, extended-graph}
 use Rattle.partitions.proofs.rule_cycle.extended_graph.Goals as goal
 
 pub symbol_preds-requires-clause-occurrence : goal.symbol_preds-requires-clause-occurrence
-symbol_preds-requires-clause-occurrence c = vertex-within c.args.flat.now.symbols c.args.flat.now.rules c.args.deps.now.ids c.args.later.now c.requires.ids c.requires.later c.args.flat.now.well_formed.each_rule c.args.flat.now.well_formed.few_attributes
-    c.args.rule.now c.requires.rule c.args.vertices.now.occs.items c.args.vertices.now.starts.items c.requires.vertices
+symbol_preds-requires-clause-occurrence c = vertex-within c.args.flat.now.symbols c.args.flat.now.rules c.args.flat.now.well_formed.each_rule c.args.flat.now.well_formed.few_attributes c.args.rule.now c.requires.rule c.args.vertices.now.occs.items c.args.vertices.now.starts.items c.requires.vertices
 
 pub symbol_preds-requires-clause-attribute : goal.symbol_preds-requires-clause-attribute
-symbol_preds-requires-clause-attribute c = vertex-attribute c.args.flat.now.symbols c.args.flat.now.rules c.args.deps.now.ids c.args.later.now c.requires.ids c.requires.later c.args.flat.now.well_formed.each_rule c.args.flat.now.well_formed.few_attributes
-    c.args.rule.now c.requires.rule c.args.vertices.now.occs.items c.args.vertices.now.starts.items c.requires.vertices
+symbol_preds-requires-clause-attribute c = vertex-attribute c.args.flat.now.symbols c.args.flat.now.rules c.args.flat.now.well_formed.each_rule c.args.flat.now.well_formed.few_attributes c.args.rule.now c.requires.rule c.args.vertices.now.occs.items c.args.vertices.now.starts.items c.requires.vertices
 
 pub symbol_preds-requires-clause-each : goal.symbol_preds-requires-clause-each
 symbol_preds-requires-clause-each c = same-lengths c.args.flat.now.symbols c.args.flat.now.rules c.args.deps.now.ids c.args.later.now c.requires.ids c.requires.later c.args.flat.now.well_formed.each_rule c.args.flat.now.well_formed.few_attributes
@@ -20,18 +19,23 @@ pub symbol_preds-requires-clause-few : goal.symbol_preds-requires-clause-few
 symbol_preds-requires-clause-few c = few-rows c.args.flat.now.symbols c.args.flat.now.rules c.args.deps.now.ids c.args.later.now c.requires.ids c.requires.later c.args.flat.now.well_formed.each_rule c.args.flat.now.well_formed.few_attributes
 
 pub add_direct-requires-clause-occurrences : goal.add_direct-requires-clause-occurrences
-add_direct-requires-clause-occurrences c = λ j e at. let h = edge-within c.args.flat.now.symbols c.args.flat.now.rules c.args.deps.now.ids c.args.later.now c.requires.ids c.requires.later c.args.flat.now.well_formed.each_rule c.args.flat.now.well_formed.few_attributes
-    c.args.rule.now c.requires.rule c.args.vertices.now.occs.items c.args.vertices.now.starts.items c.requires.vertices c.args.direct.now c.requires.direct j e at in
-    let n : length c.deref.result.now ≡ length c.args.vertices.now.starts.items = ap (λ (xs : List ℕ). length xs) c.deref.ensures.value in
-    ((let l = h.0 in omega arith), (let l = h.1 in omega arith))
+add_direct-requires-clause-occurrences c = λ comp o m d.
+    let h = dependency-within c.args.flat.now.symbols c.args.flat.now.rules c.args.flat.now.well_formed.each_rule c.args.flat.now.well_formed.few_attributes c.args.rule.now c.requires.rule c.args.vertices.now.occs.items c.args.vertices.now.starts.items c.requires.vertices comp o (subst (λ (xs : List FlatComp). Contains xs comp) c.as_slice.ensures m) d in
+    let n : length c.deref.result.now ≡ length c.args.vertices.now.starts.items = ap (λ (xs : List ℕ). length xs) c.deref.ensures.value in omega arith
+
+pub add_direct-requires-clause-goals : goal.add_direct-requires-clause-goals
+add_direct-requires-clause-goals c = λ comp m.
+    let h = goal-within c.args.flat.now.symbols c.args.flat.now.rules c.args.flat.now.well_formed.each_rule c.args.flat.now.well_formed.few_attributes c.args.rule.now c.requires.rule c.args.vertices.now.occs.items c.args.vertices.now.starts.items c.requires.vertices comp (subst (λ (xs : List FlatComp). Contains xs comp) c.as_slice.ensures m) in
+    let n : length c.deref.result.now ≡ length c.args.vertices.now.starts.items = ap (λ (xs : List ℕ). length xs) c.deref.ensures.value in omega arith
 
 pub add_direct-requires-clause-vertices : goal.add_direct-requires-clause-vertices
-add_direct-requires-clause-vertices c = λ j v e at n. let h = edge-vertex c.args.flat.now.symbols c.args.flat.now.rules c.args.deps.now.ids c.args.later.now c.requires.ids c.requires.later c.args.flat.now.well_formed.each_rule c.args.flat.now.well_formed.few_attributes
-    c.args.rule.now c.requires.rule c.args.vertices.now.occs.items c.args.vertices.now.starts.items c.requires.vertices c.args.direct.now c.requires.direct j v e at (subst (λ (starts : List ℕ). IsNumberOf starts e.to v) c.deref.ensures.value n) in
+add_direct-requires-clause-vertices c = λ comp v m n.
+    let h = goal-vertex c.args.flat.now.symbols c.args.flat.now.rules c.args.flat.now.well_formed.each_rule c.args.flat.now.well_formed.few_attributes c.args.rule.now c.requires.rule c.args.vertices.now.occs.items c.args.vertices.now.starts.items c.requires.vertices comp v (subst (λ (xs : List FlatComp). Contains xs comp) c.as_slice.ensures m) (subst (λ (starts : List ℕ). IsNumberOf starts comp.goal v) c.deref.ensures.value n) in
     omega (arith, h, c.in_ok-preds.ensures.count)
 
 pub returns : goal.returns
 returns c = extended-graph c.args.flat.now.symbols c.args.flat.now.rules c.args.deps.now.ids c.args.later.now c.requires.ids c.requires.later c.args.flat.now.well_formed.each_rule c.args.flat.now.well_formed.few_attributes
-    c.args.rule.now c.requires.rule c.args.vertices.now.occs.items c.args.vertices.now.starts.items c.requires.vertices c.args.direct.now c.requires.direct c.in_ok-preds.preds.items c.add_direct.new.preds.items
+    c.args.rule.now c.requires.rule c.args.vertices.now.occs.items c.args.vertices.now.starts.items c.requires.vertices c.in_ok-preds.preds.items c.add_direct.new.preds.items
     (omega (arith, c.in_ok-add_direct.ensures.count, c.in_ok-preds.ensures.count)) c.in_ok-preds.ensures.edges
-    (λ u v. subst (λ (starts : List ℕ). IsEdge c.add_direct.new.preds.items u v ↔ (IsEdge c.in_ok-preds.preds.items u v ⊎ IsDirectAmong starts c.args.direct.now u v)) c.deref.ensures.value (c.in_ok-add_direct.ensures.edges u v))
+    (λ u v. subst (λ (comps : List FlatComp). IsEdge c.add_direct.new.preds.items u v ↔ (IsEdge c.in_ok-preds.preds.items u v ⊎ IsDirectBy c.args.vertices.now.starts.items comps u v)) c.as_slice.ensures
+    (subst (λ (starts : List ℕ). IsEdge c.add_direct.new.preds.items u v ↔ (IsEdge c.in_ok-preds.preds.items u v ⊎ IsDirectBy starts c.as_slice.result.now u v)) c.deref.ensures.value (c.in_ok-add_direct.ensures.edges u v)))

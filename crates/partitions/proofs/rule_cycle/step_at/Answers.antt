@@ -2,6 +2,7 @@ use Rattle.std.proofs.Common.{◌≡◌, ◌<◌, ℕ, List, Some, get_or, lengt
 use Rattle.std.specs.Prelude.{slice_get}
 use Rattle.std.proofs.lemmas.Option.{slice_get-get_or}
 use Rattle.flat_grammar.specs.declared.flat.Occ.{Occ}
+use Rattle.flat_grammar.proofs.BitsLemmas.{iff_then}
 use Rattle.partitions.proofs.StepsLemmas.{next-is}
 use Rattle.partitions.proofs.rule_cycle.step_at.Goals as goal
 
@@ -25,3 +26,9 @@ returns c =
     let from = vertex-at c.args.cycle.now c.args.occs.now c.args.place (record { occ = 0; attr = record { 0 = 0 } }) c.requires.place c.requires.vertices in
     let to = vertex-at c.args.cycle.now c.args.occs.now c.next_place.result (record { occ = 0; attr = record { 0 = 0 } }) c.next_place.ensures.within c.requires.vertices in
     (c.next_place.result, _, _, _, next-is (length c.args.cycle.now) c.args.place c.next_place.result c.requires.place c.next_place.ensures.next c.next_place.ensures.last, from.0, to.0, from.1, to.1, c.label_of.ensures)
+
+pub label_of-requires-clause-direct : goal.label_of-requires-clause-direct
+label_of-requires-clause-direct c =
+    let from = vertex-at c.args.cycle.now c.args.occs.now c.args.place (record { occ = 0; attr = record { 0 = 0 } }) c.requires.place c.requires.vertices in
+    let to = vertex-at c.args.cycle.now c.args.occs.now c.next_place.result (record { occ = 0; attr = record { 0 = 0 } }) c.next_place.ensures.within c.requires.vertices in
+    iff_then c.is_edge.ensures (c.requires.direct _ _ _ _ from.1 to.1)

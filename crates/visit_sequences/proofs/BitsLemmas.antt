@@ -1,10 +1,11 @@
 -- Sets of attributes as words: an attribute more, and all that were looked at.
-use Rattle.std.specs.Prelude.{Contains, IsBitSet}
+use Rattle.std.specs.Prelude.{Contains, IsBitSet, MatchOption, Option, Some, None}
 use Rattle.std.proofs.Common.{List, [], ◌∷◌, ◌++◌, take, length, get_or, ◌≡◌, ℕ, ◌+◌, ◌<◌, ◌≤◌, ◌⊎◌, inl, inr, sym, ap, subst, arith, ◌↔◌}
 use Rattle.std.proofs.lemmas.Bool.{cases_lt}
 use Rattle.std.proofs.lemmas.List.{take_more, take_all}
 use Rattle.std.proofs.lemmas.List.Elements.{Contains-append_left, Contains-push, Contains-push_cases}
 use Rattle.lido_base.specs.declared.ids.AttrId.{AttrId}
+use Rattle.flat_grammar.proofs.BitsLemmas.{is-set}
 use Rattle.flat_grammar.specs.declared.flat.Occ.{Occ}
 
 -- the elements of a list up to one more place
@@ -19,10 +20,10 @@ taken-cases xs i d x h m = Contains-push_cases (take i xs) (get_or xs i d) x (su
 
 -- the set has the attributes that were looked at
 abbrev pub HasTaken : List AttrId → ℕ → ℕ → Type 0
-HasTaken attrs i set = (a : AttrId) → IsBitSet set a.0 ↔ ((a.0 < 128) × Contains (take i attrs) a)
+HasTaken attrs i set = (a : AttrId) → IsBitSet set a.0 ↔ ((a.0 < 256) × Contains (take i attrs) a)
 
 pub members-step : (attrs : List AttrId) (i : ℕ) (d : AttrId) (old new : ℕ) → i < length attrs → HasTaken attrs i old
-    → ((j : ℕ) → IsBitSet new j ↔ (((j ≡ (get_or attrs i d).0) × (j < 128)) ⊎ IsBitSet old j)) → HasTaken attrs (i + 1) new
+    → ((j : ℕ) → IsBitSet new j ↔ (((j ≡ (get_or attrs i d).0) × (j < 256)) ⊎ IsBitSet old j)) → HasTaken attrs (i + 1) new
 members-step attrs i d old new h inv step a = (
   (λ bit. elim ((step a.0).0 bit) [
     | inl here ↦ (here.1, subst (λ x. Contains (take (i + 1) attrs) x) (λ k. record { 0 = sym here.0 k }) (taken-here attrs i d h))
@@ -34,14 +35,14 @@ members-step attrs i d old new h inv step a = (
   ])),
 )
 
-pub members-all : (attrs : List AttrId) (i : ℕ) (set : ℕ) → length attrs ≤ i → HasTaken attrs i set → (a : AttrId) → IsBitSet set a.0 ↔ ((a.0 < 128) × Contains attrs a)
-members-all attrs i set h inv a = subst (λ l. IsBitSet set a.0 ↔ ((a.0 < 128) × Contains l a)) (take_all i attrs h) (inv a)
+pub members-all : (attrs : List AttrId) (i : ℕ) (set : ℕ) → length attrs ≤ i → HasTaken attrs i set → (a : AttrId) → IsBitSet set a.0 ↔ ((a.0 < 256) × Contains attrs a)
+members-all attrs i set h inv a = subst (λ l. IsBitSet set a.0 ↔ ((a.0 < 256) × Contains l a)) (take_all i attrs h) (inv a)
 
 -- the set has the numbers before i at which this holds
 abbrev pub IsFound : (ℕ → Type 0) → ℕ → ℕ → Type 0
-IsFound P i set = (j : ℕ) → IsBitSet set j ↔ ((j < 128) × (j < i) × P j)
+IsFound P i set = (j : ℕ) → IsBitSet set j ↔ ((j < 256) × (j < i) × P j)
 
-pub found-one : (P : ℕ → Type 0) (i old new : ℕ) → IsFound P i old → ((j : ℕ) → IsBitSet new j ↔ (((j ≡ i) × (j < 128)) ⊎ IsBitSet old j)) → P i → IsFound P (i + 1) new
+pub found-one : (P : ℕ → Type 0) (i old new : ℕ) → IsFound P i old → ((j : ℕ) → IsBitSet new j ↔ (((j ≡ i) × (j < 256)) ⊎ IsBitSet old j)) → P i → IsFound P (i + 1) new
 found-one P i old new inv step here j = (
   (λ bit. elim ((step j).0 bit) [
     | inl h ↦ (let e = h.0 in (h.1, (omega (arith, e)), subst P (sym e) here))
@@ -65,3 +66,17 @@ found-not P i old inv none j = (
 -- one more of these attributes of an occurrence
 pub one-more : (old new : List Occ) (x u : Occ) → new ≡ old ++ x ∷ [] → x.occ ≡ u.occ → x.attr ≡ u.attr → Contains new u
 one-more old new x u items e f = subst (λ k. Contains new (record { occ = k; attr = u.attr })) e (subst (λ a. Contains new (record { occ = x.occ; attr = a })) f (subst (λ l. Contains l x) (sym items) (Contains-push old x)))
+
+-- the first of what the one set has and the other has not
+pub first-new : (set old new : ℕ) (found : Option AttrId) → ((j : ℕ) → IsBitSet new j ↔ (IsBitSet set j × (IsBitSet old j → ⊥)))
+    → MatchOption found ((j : ℕ) → IsBitSet new j → ⊥) (λ a. (a.0 < 256) × IsBitSet new a.0 × ((j : ℕ) → j < a.0 → IsBitSet new j → ⊥))
+    → MatchOption found ((j : ℕ) → IsBitSet set j → IsBitSet old j) (λ a. (a.0 < 256) × IsBitSet set a.0 × (IsBitSet old a.0 → ⊥) × ((j : ℕ) → j < a.0 → IsBitSet set j → IsBitSet old j))
+first-new set old new found beside first = go found first
+  where
+    old-too : (j : ℕ) → (IsBitSet new j → ⊥) → IsBitSet set j → IsBitSet old j
+    old-too j none bit = elim (is-set old j) [ inl h ↦ h | inr n ↦ absurd (none ((beside j).1 (bit, n))) ]
+
+    go : (found : Option AttrId) → MatchOption found ((j : ℕ) → IsBitSet new j → ⊥) (λ a. (a.0 < 256) × IsBitSet new a.0 × ((j : ℕ) → j < a.0 → IsBitSet new j → ⊥))
+        → MatchOption found ((j : ℕ) → IsBitSet set j → IsBitSet old j) (λ a. (a.0 < 256) × IsBitSet set a.0 × (IsBitSet old a.0 → ⊥) × ((j : ℕ) → j < a.0 → IsBitSet set j → IsBitSet old j))
+    go None none = λ j bit. old-too j (none j) bit
+    go (Some a) h = (h.0, ((beside a.0).0 h.1).0, ((beside a.0).0 h.1).1, λ j l bit. old-too j (h.2 j l) bit)

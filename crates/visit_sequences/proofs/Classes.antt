@@ -98,15 +98,15 @@ module _ (symbols : List FlatSymbol) (rules : List FlatRule) where
         let f : (length row - suc k) + suc k ≡ length row = omega (arith, l) in
         let h = are.classes (length row - suc k) c (slice_get-reverse row k (length row - suc k) c e f) in (length row - suc k, f, h.0, h.1)
 
-    pub synthesized-kind : (k : ℕ) (c : VisitClass) (a : AttrId) → slice_get row k ≡ Some c → Contains c.synthesized a → HasKind symbols rules x Synthesized a
+    pub synthesized-kind : (k : ℕ) (c : VisitClass) (a : AttrId) → slice_get row k ≡ Some c → Contains c.synthesized a → HasKind symbols x Synthesized a
     synthesized-kind k c a e m = let h = classes-of k c e in
-        subst (λ z. HasKind symbols rules x z a) (even-kind h.0) (IsInClass-kind symbols rules x (2 * h.0) a ((h.2.same a).0 m))
+        subst (λ z. HasKind symbols x z a) (even-kind h.0) (IsInClass-kind symbols rules x (2 * h.0) a ((h.2.same a).0 m))
 
-    pub inherited-kind : (k : ℕ) (c : VisitClass) (a : AttrId) → slice_get row k ≡ Some c → Contains c.inherited a → HasKind symbols rules x Inherited a
+    pub inherited-kind : (k : ℕ) (c : VisitClass) (a : AttrId) → slice_get row k ≡ Some c → Contains c.inherited a → HasKind symbols x Inherited a
     inherited-kind k c a e m = let h = classes-of k c e in
-        subst (λ z. HasKind symbols rules x z a) (odd-kind h.0) (IsInClass-kind symbols rules x (2 * h.0 + 1) a ((h.3.same a).0 m))
+        subst (λ z. HasKind symbols x z a) (odd-kind h.0) (IsInClass-kind symbols rules x (2 * h.0 + 1) a ((h.3.same a).0 m))
 
-    kind-some : (kind : Kind) (a : AttrId) → HasKind symbols rules x kind a → IsSome (attribute_at symbols x a)
+    kind-some : (kind : Kind) (a : AttrId) → HasKind symbols x kind a → IsSome (attribute_at symbols x a)
     kind-some kind a (attr, e, f) = some-is (attribute_at symbols x a) attr e
 
     -- what a visit inherits comes before what it or a later one synthesizes

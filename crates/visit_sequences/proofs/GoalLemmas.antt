@@ -96,29 +96,29 @@ module _ (row : List VisitClass) (b : AttrId) where
 
   -- the sets of the classes
   abbrev pub HasPassed : ℕ → ℕ → Type 0
-  HasPassed k set = (a : AttrId) → IsBitSet set a.0 ↔ ((a.0 < 128) × PassedBefore row k a)
+  HasPassed k set = (a : AttrId) → IsBitSet set a.0 ↔ ((a.0 < 256) × PassedBefore row k a)
 
   abbrev pub HasMembers : List AttrId → ℕ → Type 0
-  HasMembers attrs set = (a : AttrId) → IsBitSet set a.0 ↔ ((a.0 < 128) × Contains attrs a)
+  HasMembers attrs set = (a : AttrId) → IsBitSet set a.0 ↔ ((a.0 < 256) × Contains attrs a)
 
   abbrev pub IsUnion : ℕ → ℕ → ℕ → Type 0
   IsUnion set more both = (j : ℕ) → IsBitSet both j ↔ (IsBitSet set j ⊎ IsBitSet more j)
 
-  pub inherited-return : (k : ℕ) (c : VisitClass) (set inherited : ℕ) → b.0 < 128 → slice_get row k ≡ Some c → LacksBefore row k b → HasPassed k set → HasMembers c.inherited inherited → IsBitSet inherited b.0
-      → (a : AttrId) → IsBitSet set a.0 ↔ ((a.0 < 128) × StandsBefore row a b)
+  pub inherited-return : (k : ℕ) (c : VisitClass) (set inherited : ℕ) → b.0 < 256 → slice_get row k ≡ Some c → LacksBefore row k b → HasPassed k set → HasMembers c.inherited inherited → IsBitSet inherited b.0
+      → (a : AttrId) → IsBitSet set a.0 ↔ ((a.0 < 256) × StandsBefore row a b)
   inherited-return k c set inherited few e lacks has members bit a =
       let same = at-inherited k c e lacks ((members b).0 bit).1 a in
       ((λ h. let p = (has a).0 h in (p.0, same.0 p.1)), (λ q. (has a).1 (q.0, same.1 q.1)))
 
-  pub synthesized-return : (k : ℕ) (c : VisitClass) (set inherited both synthesized : ℕ) → b.0 < 128 → slice_get row k ≡ Some c → LacksBefore row k b → HasPassed k set → HasMembers c.inherited inherited
-      → (IsBitSet inherited b.0 → ⊥) → IsUnion set inherited both → HasMembers c.synthesized synthesized → IsBitSet synthesized b.0 → (a : AttrId) → IsBitSet both a.0 ↔ ((a.0 < 128) × StandsBefore row a b)
+  pub synthesized-return : (k : ℕ) (c : VisitClass) (set inherited both synthesized : ℕ) → b.0 < 256 → slice_get row k ≡ Some c → LacksBefore row k b → HasPassed k set → HasMembers c.inherited inherited
+      → (IsBitSet inherited b.0 → ⊥) → IsUnion set inherited both → HasMembers c.synthesized synthesized → IsBitSet synthesized b.0 → (a : AttrId) → IsBitSet both a.0 ↔ ((a.0 < 256) × StandsBefore row a b)
   synthesized-return k c set inherited both synthesized few e lacks has members none union more bit a =
       let same = at-synthesized k c e lacks (λ m. none ((members b).1 (few, m))) ((more b).0 bit).1 a in (
         (λ h. elim ((union a.0).0 h) [ inl i ↦ (let p = (has a).0 i in (p.0, same.0 (inl p.1))) | inr j ↦ (let p = (members a).0 j in (p.0, same.0 (inr p.1))) ]),
         (λ q. (union a.0).1 (elim (same.1 q.1) [ inl p ↦ inl ((has a).1 (q.0, p)) | inr m ↦ inr ((members a).1 (q.0, m)) ])),
       )
 
-  pub next-lacks : (k : ℕ) (c : VisitClass) (inherited synthesized : ℕ) → b.0 < 128 → slice_get row k ≡ Some c → LacksBefore row k b → HasMembers c.inherited inherited → (IsBitSet inherited b.0 → ⊥) → HasMembers c.synthesized synthesized
+  pub next-lacks : (k : ℕ) (c : VisitClass) (inherited synthesized : ℕ) → b.0 < 256 → slice_get row k ≡ Some c → LacksBefore row k b → HasMembers c.inherited inherited → (IsBitSet inherited b.0 → ⊥) → HasMembers c.synthesized synthesized
       → (IsBitSet synthesized b.0 → ⊥) → LacksBefore row (k + 1) b
   next-lacks k c inherited synthesized few e lacks members none more neither = lacks-more k c e lacks (λ m. none ((members b).1 (few, m))) (λ m. neither ((more b).1 (few, m)))
 
@@ -138,7 +138,7 @@ module _ (row : List VisitClass) (b : AttrId) where
     ])),
   )
 
-  pub end-return : (k : ℕ) (set : ℕ) → length row ≤ k → LacksBefore row k b → HasPassed k set → (a : AttrId) → IsBitSet set a.0 ↔ ((a.0 < 128) × StandsBefore row a b)
+  pub end-return : (k : ℕ) (set : ℕ) → length row ≤ k → LacksBefore row k b → HasPassed k set → (a : AttrId) → IsBitSet set a.0 ↔ ((a.0 < 256) × StandsBefore row a b)
   end-return k set h lacks has a = let same = at-end k h lacks a in ((λ i. let p = (has a).0 i in (p.0, same.0 p.1)), (λ q. (has a).1 (q.0, same.1 q.1)))
 
 module _ (symbols : List FlatSymbol) (rules : List FlatRule) (x : SymId) where
@@ -242,16 +242,16 @@ module _ (symbols : List FlatSymbol) (rules : List FlatRule) (x : SymId) where
                     later-class p.2 q.2 a b p.5 q.5 (omega (arith, s, t, u, v, h)) there
 
 module _ (symbols : List FlatSymbol) (rules : List FlatRule) (shapes : List Shape) (root : SymId) (w : IsWellFormed symbols rules shapes root) where
-  pub few : (x : SymId) (a : AttrId) → IsSome (attribute_at symbols x a) → a.0 < 128
+  pub few : (x : SymId) (a : AttrId) → IsSome (attribute_at symbols x a) → a.0 < 256
   few x a some = go (slice_get symbols x.0) refl some
     where
-      go : (o : Option FlatSymbol) → slice_get symbols x.0 ≡ o → IsSome (option_and_then (λ (y : FlatSymbol). slice_get y.attrs a.0) o) → a.0 < 128
+      go : (o : Option FlatSymbol) → slice_get symbols x.0 ≡ o → IsSome (option_and_then (λ (y : FlatSymbol). slice_get y.attrs a.0) o) → a.0 < 256
       go None e f = absurd (true≢false (sym f))
       go (Some s) e f =
           let v = value_in (slice_get s.attrs a.0) f in let l = slice_get_within s.attrs a.0 v.0 v.1 in
-          let m = All-contains (λ (y : FlatSymbol). length y.attrs ≤ 128) symbols s w.few_attributes (contains-slice_get symbols x.0 s e) in omega (arith, l, m)
+          let m = All-contains (λ (y : FlatSymbol). length y.attrs ≤ 256) symbols s w.few_attributes (contains-slice_get symbols x.0 s e) in omega (arith, l, m)
 
-  pub few-at : (r : FlatRule) (o : Occ) → IsSome (attribute_of symbols r o) → o.attr.0 < 128
+  pub few-at : (r : FlatRule) (o : Occ) → IsSome (attribute_of symbols r o) → o.attr.0 < 256
   few-at r o some = let p = symbol-there symbols r o some in few p.0 o.attr p.2
 
   module _ (rows : List (List ℕ)) (are : AreInducedRows symbols rules rows) where
@@ -287,8 +287,8 @@ module _ (symbols : List FlatSymbol) (rules : List FlatRule) (shapes : List Shap
 
     -- the union of both sets is what comes before the goal
     pub before-is : (visits : List (List VisitClass)) → AreAllVisits symbols rules visits → (r : FlatRule) (goal : Occ) (x : SymId) (of_x : List ℕ) (before more set : ℕ) → IsSome (attribute_of symbols r goal) → symbol_at r goal.occ ≡ Some x → slice_get rows x.0 ≡ Some of_x
-        → ((a : AttrId) → IsBitSet before a.0 ↔ ((a.0 < 128) × StandsBefore (row_of visits r goal.occ) a goal.attr))
-        → ((a : AttrId) → IsBitSet more a.0 ↔ ((a.0 < 128) × (row : ℕ) × (slice_get of_x a.0 ≡ Some row) × IsBitSet row goal.attr.0))
+        → ((a : AttrId) → IsBitSet before a.0 ↔ ((a.0 < 256) × StandsBefore (row_of visits r goal.occ) a goal.attr))
+        → ((a : AttrId) → IsBitSet more a.0 ↔ ((a.0 < 256) × (row : ℕ) × (slice_get of_x a.0 ≡ Some row) × IsBitSet row goal.attr.0))
         → ((j : ℕ) → IsBitSet set j ↔ (IsBitSet before j ⊎ IsBitSet more j)) → (a : AttrId) → IsBitSet set a.0 ↔ IsBefore symbols rules r goal a
     before-is visits all r goal x of_x before more set some at e has induced union a = (forth, back)
       where

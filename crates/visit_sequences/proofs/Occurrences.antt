@@ -126,11 +126,11 @@ module _ (symbols : List FlatSymbol) where
     goal-attribute q among o m = goal_kind-some o.occ (attribute_of symbols q o) (sym ((rule-is q among).goals o) ∙ any-goal o q.comps m)
 
     -- what the left side synthesizes is a goal
-    pub left-goal : (q : FlatRule) → Contains rules q → (a : AttrId) → HasKind symbols rules q.left Synthesized a → Contains (goals_of q) (record { occ = 0; attr = a })
+    pub left-goal : (q : FlatRule) → Contains rules q → (a : AttrId) → HasKind symbols q.left Synthesized a → Contains (goals_of q) (record { occ = 0; attr = a })
     left-goal q among a (attr, e, f) = goal-there q among (record { occ = 0; attr = a }) (ap (λ z. is_goal_kind 0 z) e ∙ left-kind attr f)
 
     -- what a child inherits is a goal
-    pub right-goal : (q : FlatRule) → Contains rules q → (k : ℕ) (s : SymId) (a : AttrId) → 0 < k → symbol_at q k ≡ Some s → HasKind symbols rules s Inherited a → Contains (goals_of q) (record { occ = k; attr = a })
+    pub right-goal : (q : FlatRule) → Contains rules q → (k : ℕ) (s : SymId) (a : AttrId) → 0 < k → symbol_at q k ≡ Some s → HasKind symbols s Inherited a → Contains (goals_of q) (record { occ = k; attr = a })
     right-goal q among k s a h at (attr, e, f) =
         goal-there q among (record { occ = k; attr = a }) (ap (λ z. is_goal_kind k z) (attribute-is q (record { occ = k; attr = a }) s at ∙ e) ∙ right-kind k attr h f)
 

@@ -115,7 +115,7 @@ module _ (symbols : List FlatSymbol) (rules : List FlatRule) (shapes : List Shap
                 left z k c f (inr m) =
                     let same : s ≡ r.left = held (sym (ap (λ n. symbol_at r n) (sym z) ∙ at)) in
                     goal (subst (λ n. Contains (goals_of r) (record { occ = n; attr = o.attr })) (sym z)
-                    (left-goal symbols rules shapes root w r among o.attr (subst (λ q. HasKind symbols rules q Synthesized o.attr) same (synthesized-kind symbols rules s row are k c o.attr f m))))
+                    (left-goal symbols rules shapes root w r among o.attr (subst (λ q. HasKind symbols q Synthesized o.attr) same (synthesized-kind symbols rules s row are k c o.attr f m))))
 
                 right : 0 < o.occ → (k : ℕ) (c : VisitClass) → slice_get row k ≡ Some c → (Contains c.inherited o.attr ⊎ Contains c.synthesized o.attr) → IsAtHand visits r before o ⊎ Blocked o
                 right z k c f (inl m) = goal (right-goal symbols rules shapes root w r among o.occ s o.attr z at (inherited-kind symbols rules s row are k c o.attr f m))
@@ -196,7 +196,7 @@ module _ (symbols : List FlatSymbol) (rules : List FlatRule) (shapes : List Shap
               go (s, row, place, e, f, are) = never-blocked (record { occ = 0; attr = a }) near (inl (goal, n))
                 where
                   goal : Contains (goals_of r) (record { occ = 0; attr = a })
-                  goal = left-goal symbols rules shapes root w r among a (subst (λ q. HasKind symbols rules q Synthesized a) (held (sym place)) (synthesized-kind symbols rules s row are v class a f m))
+                  goal = left-goal symbols rules shapes root w r among a (subst (λ q. HasKind symbols q Synthesized a) (held (sym place)) (synthesized-kind symbols rules s row are v class a f m))
 
                   near : (steps : List CycleStep) → Leads symbols rules r steps (record { occ = 0; attr = a }) → Distinct steps → ((q : CycleStep) → Contains steps q → q.from ≡ record { occ = 0; attr = a } → ⊥) → Of_left (start steps (record { occ = 0; attr = a })) → ⊥
                   near steps leads distinct apart (z, x, c, l, (s', row', place', e', f'), k) =

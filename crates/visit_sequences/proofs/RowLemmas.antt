@@ -104,19 +104,19 @@ module _ (symbols : List FlatSymbol) (rules : List FlatRule) (x : SymId) (row : 
       (λ k l c d a e f m n. let p = classes-of symbols rules x row are k c e in let q = classes-of symbols rules x row are l d f in
       same-visit (λ i. 2 * i + 1) (λ i j h. omega (arith, h)) k l p.0 q.0 a p.1 q.1 ((p.3.same a).0 m) ((q.3.same a).0 n))
 
-  one-kind : (k l : Kind) (a : AttrId) → HasKind symbols rules x k a → HasKind symbols rules x l a → k ≡ l
+  one-kind : (k l : Kind) (a : AttrId) → HasKind symbols x k a → HasKind symbols x l a → k ≡ l
   one-kind k l a (attr, e, f) (other, g, h) = sym f ∙ (ap (λ z. z.kind) (held (sym e ∙ g)) ∙ h)
 
-  kind-row : (kind : Kind) (a : AttrId) → HasKind symbols rules x kind a → Contains (of_kind kind row) a
+  kind-row : (kind : Kind) (a : AttrId) → HasKind symbols x kind a → Contains (of_kind kind row) a
   kind-row kind a has = go kind has (stands symbols rules x row are a (some-is (attribute_at symbols x a) has.0 has.1))
     where
-      go : (kind : Kind) → HasKind symbols rules x kind a → (k : ℕ) × (c : VisitClass) × (slice_get row k ≡ Some c) × (Contains c.inherited a ⊎ Contains c.synthesized a) → Contains (of_kind kind row) a
+      go : (kind : Kind) → HasKind symbols x kind a → (k : ℕ) × (c : VisitClass) × (slice_get row k ≡ Some c) × (Contains c.inherited a ⊎ Contains c.synthesized a) → Contains (of_kind kind row) a
       go Synthesized h (k, c, e, inr m) = to-flat_map (λ (c : VisitClass). c.synthesized) row k c a e m
       go Inherited h (k, c, e, inl m) = to-flat_map (λ (c : VisitClass). c.inherited) row k c a e m
       go Synthesized h (k, c, e, inl m) = absurd (true≢false (ap is_synthesized (one-kind Synthesized Inherited a h (inherited-kind symbols rules x row are k c a e m))))
       go Inherited h (k, c, e, inr m) = absurd (true≢false (sym (ap is_synthesized (one-kind Inherited Synthesized a h (synthesized-kind symbols rules x row are k c a e m)))))
 
-  row-kind : (kind : Kind) (a : AttrId) → Contains (of_kind kind row) a → HasKind symbols rules x kind a
+  row-kind : (kind : Kind) (a : AttrId) → Contains (of_kind kind row) a → HasKind symbols x kind a
   row-kind Synthesized a m = let p = in-flat_map (λ (c : VisitClass). c.synthesized) row a m in synthesized-kind symbols rules x row are p.0 p.1 a p.2 p.3
   row-kind Inherited a m = let p = in-flat_map (λ (c : VisitClass). c.inherited) row a m in inherited-kind symbols rules x row are p.0 p.1 a p.2 p.3
 
@@ -125,10 +125,10 @@ module _ (symbols : List FlatSymbol) (rules : List FlatRule) (x : SymId) (row : 
   row-once Inherited = once-pairs (flat_map (λ (c : VisitClass). c.inherited) row) inherited-once
 
 module _ (symbols : List FlatSymbol) (rules : List FlatRule) (shapes : List Shape) (root : SymId) (w : IsWellFormed symbols rules shapes root) where
-  attribute-kind : (k : ℕ) (s : FlatSymbol) (kind : Kind) (a : AttrId) → slice_get symbols k ≡ Some s → HasKind symbols rules (record { 0 = k }) kind a → IsAttribute s kind a
+  attribute-kind : (k : ℕ) (s : FlatSymbol) (kind : Kind) (a : AttrId) → slice_get symbols k ≡ Some s → HasKind symbols (record { 0 = k }) kind a → IsAttribute s kind a
   attribute-kind k s kind a e (attr, f, g) = (attr, sym (rw e refl) ∙ f, g)
 
-  kind-attribute : (k : ℕ) (s : FlatSymbol) (kind : Kind) (a : AttrId) → slice_get symbols k ≡ Some s → IsAttribute s kind a → HasKind symbols rules (record { 0 = k }) kind a
+  kind-attribute : (k : ℕ) (s : FlatSymbol) (kind : Kind) (a : AttrId) → slice_get symbols k ≡ Some s → IsAttribute s kind a → HasKind symbols (record { 0 = k }) kind a
   kind-attribute k s kind a e (attr, f, g) = (attr, rw e f, g)
 
   row-right : (k : ℕ) (s : FlatSymbol) (row : List VisitClass) → slice_get symbols k ≡ Some s

@@ -163,7 +163,7 @@ module _ (visits : List (List VisitClass)) (r : FlatRule) where
     abbrev Old : List PlanItem
     Old = p.items.items
 
-    pub follows-eval : (o : Occ) → q.items.items ≡ p.items.items ++ Eval o ∷ [] → o.occ < length (symbols_of r) → o.attr.0 < 128 → q.made ≡ p.made → q.segment ≡ p.segment → length q.evaluated.items ≡ length p.evaluated.items
+    pub follows-eval : (o : Occ) → q.items.items ≡ p.items.items ++ Eval o ∷ [] → o.occ < length (symbols_of r) → o.attr.0 < 256 → q.made ≡ p.made → q.segment ≡ p.segment → length q.evaluated.items ≡ length p.evaluated.items
         → length q.at_hand.items ≡ length p.at_hand.items → Evaluates p.evaluated.items q.evaluated.items o → Evaluates p.at_hand.items q.at_hand.items o → Follows visits r q
     follows-eval o items occ attr made segment each each' evaluated at_hand = record {
       evaluated = λ u. (
@@ -182,7 +182,7 @@ module _ (visits : List (List VisitClass)) (r : FlatRule) where
     }
 
     pub follows-visit : (k v : ℕ) → q.items.items ≡ p.items.items ++ Visit k v ∷ [] → 0 < k → k < length (symbols_of r) → v ≡ suc (visits_made p.items.items k)
-        → ((a : AttrId) → PassesIn (λ (c : VisitClass). c.synthesized) (row_of visits r k) v a → a.0 < 128) → q.evaluated ≡ p.evaluated → q.segment ≡ p.segment → length q.at_hand.items ≡ length p.at_hand.items
+        → ((a : AttrId) → PassesIn (λ (c : VisitClass). c.synthesized) (row_of visits r k) v a → a.0 < 256) → q.evaluated ≡ p.evaluated → q.segment ≡ p.segment → length q.at_hand.items ≡ length p.at_hand.items
         → q.made.items ≡ slice_set p.made.items k v → Passes (λ (c : VisitClass). c.synthesized) (row_of visits r k) v p.at_hand.items q.at_hand.items k → Follows visits r q
     follows-visit k v items pos inside next few evaluated segment each made at_hand = record {
       evaluated = λ u. (
@@ -209,7 +209,7 @@ module _ (visits : List (List VisitClass)) (r : FlatRule) where
             go (inr n) = get_or-set_other p.made.items k j v 0 (λ e. n (sym e)) ∙ (follows.made j h ∙ sym (visit-counts_other p.items.items k v j n))
 
     pub follows-leave : (v : ℕ) → q.items.items ≡ p.items.items ++ Leave v ∷ [] → v ≡ segment_after p.items.items
-        → ((a : AttrId) → PassesIn (λ (c : VisitClass). c.inherited) (row_of visits r 0) (v + 1) a → a.0 < 128) → q.evaluated ≡ p.evaluated → q.made ≡ p.made → length q.at_hand.items ≡ length p.at_hand.items
+        → ((a : AttrId) → PassesIn (λ (c : VisitClass). c.inherited) (row_of visits r 0) (v + 1) a → a.0 < 256) → q.evaluated ≡ p.evaluated → q.made ≡ p.made → length q.at_hand.items ≡ length p.at_hand.items
         → q.segment ≡ v + 1 → Passes (λ (c : VisitClass). c.inherited) (row_of visits r 0) (v + 1) p.at_hand.items q.at_hand.items 0 → Follows visits r q
     follows-leave v items own few evaluated made each segment at_hand = record {
       evaluated = λ u. (

@@ -36,12 +36,12 @@ chosen-eval symbols rules visits r before o (evaluation (left, h) least) = left.
 
 module _ (symbols : List FlatSymbol) (rules : List FlatRule) (shapes : List Shape) (root : SymId) (w : IsWellFormed symbols rules shapes root)
     (visits : List (List VisitClass)) (all : AreAllVisits symbols rules visits) (r : FlatRule) (among : Contains rules r) where
-  few-synthesized : (k v : ℕ) (a : AttrId) → PassesIn (λ (c : VisitClass). c.synthesized) (row_of visits r k) v a → a.0 < 128
+  few-synthesized : (k v : ℕ) (a : AttrId) → PassesIn (λ (c : VisitClass). c.synthesized) (row_of visits r k) v a → a.0 < 256
   few-synthesized k v a (u, c, e, f, m) =
       let p = row-at symbols rules shapes root w visits all r among k u c (row-class visits r k u c f) in
       let h = synthesized-kind symbols rules p.0 p.1 p.5 u c a p.4 m in few symbols rules shapes root w p.0 a (some-is _ h.0 h.1)
 
-  few-inherited : (k v : ℕ) (a : AttrId) → PassesIn (λ (c : VisitClass). c.inherited) (row_of visits r k) v a → a.0 < 128
+  few-inherited : (k v : ℕ) (a : AttrId) → PassesIn (λ (c : VisitClass). c.inherited) (row_of visits r k) v a → a.0 < 256
   few-inherited k v a (u, c, e, f, m) =
       let p = row-at symbols rules shapes root w visits all r among k u c (row-class visits r k u c f) in
       let h = inherited-kind symbols rules p.0 p.1 p.5 u c a p.4 m in few symbols rules shapes root w p.0 a (some-is _ h.0 h.1)

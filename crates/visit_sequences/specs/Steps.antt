@@ -66,7 +66,7 @@ HasBit rows o = IsBitSet (slice_index rows o.occ) o.attr.0
 
 -- the set has the attributes of this list of the visit, counted from 1
 abbrev pub HasBitsOf : (VisitClass → List AttrId) → List VisitClass → ℕ → ℕ → Type 0
-HasBitsOf of row visit set = (a : AttrId) → IsBitSet set a.0 ↔ ((a.0 < 128) × PassesIn of row visit a)
+HasBitsOf of row visit set = (a : AttrId) → IsBitSet set a.0 ↔ ((a.0 < 256) × PassesIn of row visit a)
 
 -- the sets have become larger by these bits at one place
 abbrev pub Adds : List ℕ → List ℕ → ℕ → ℕ → Type 0
@@ -74,11 +74,11 @@ Adds old new k more = (i j : ℕ) → IsBitSet (slice_index new i) j ↔ (IsBitS
 
 -- the sets have become larger by one occurrence
 abbrev pub Evaluates : List ℕ → List ℕ → Occ → Type 0
-Evaluates old new goal = (o : Occ) → HasBit new o ↔ (HasBit old o ⊎ ((o ≡ goal) × (goal.occ < length old) × (goal.attr.0 < 128)))
+Evaluates old new goal = (o : Occ) → HasBit new o ↔ (HasBit old o ⊎ ((o ≡ goal) × (goal.occ < length old) × (goal.attr.0 < 256)))
 
 -- the sets have become larger by what passes at an occurrence in a visit
 abbrev pub Passes : (VisitClass → List AttrId) → List VisitClass → ℕ → List ℕ → List ℕ → ℕ → Type 0
-Passes of row visit old new k = (o : Occ) → HasBit new o ↔ (HasBit old o ⊎ ((o.occ ≡ k) × (k < length old) × (o.attr.0 < 128) × PassesIn of row visit o.attr))
+Passes of row visit old new k = (o : Occ) → HasBit new o ↔ (HasBit old o ⊎ ((o.occ ≡ k) × (k < length old) × (o.attr.0 < 256) × PassesIn of row visit o.attr))
 
 -- the items' evaluations, what is at hand behind them, how often they visit each child, and the visit that goes on
 pub record Follows (visits : List (List VisitClass)) (r : FlatRule) (p : Progress) : Type 0 where

@@ -15,8 +15,8 @@ use crate::progress::Progress;
 use crate::queue::Queue;
 use crate::rest::Rest;
 use crate::rows::row_at;
-use flat_grammar::{Flat, FlatRule, Occ, Parts, PlanItem, VisitClass};
-use lido_base::{AttrId, List, Memory};
+use flat_grammar::{Bits, Flat, FlatRule, Occ, Parts, PlanItem, VisitClass};
+use lido_base::{List, Memory};
 
 /// A visit's number, if it is one of 16 bits. A symbol has no more visits than attributes, and one at least.
 fn number(visit: usize) -> Result<u16, Memory>
@@ -47,13 +47,18 @@ impl Progress {
         ensures { MatchOption result ((o : Occurrence) → o.occ ≡ occ → ¬ IsLeft self.now queue.now o)
             (λ o. (o.occ ≡ occ) × IsLeft self.now queue.now o × ((p : Occurrence) → p.occ ≡ occ → IsLeft self.now queue.now p → IsAtMost o p)) }
     {
-        let free = queue.free.get(occ as usize).copied().unwrap_or(0);
-        let evaluated = self.evaluated.get(occ as usize).copied().unwrap_or(0);
+        let free = queue
+            .free
+            .get(occ as usize)
+            .copied()
+            .unwrap_or(Bits::empty());
+        let evaluated = self
+            .evaluated
+            .get(occ as usize)
+            .copied()
+            .unwrap_or(Bits::empty());
         let attr = least_new(free, evaluated)?;
-        Some(Occ {
-            occ,
-            attr: AttrId(attr),
-        })
+        Some(Occ { occ, attr })
     }
 
     /// The least goal that is free and not evaluated. An occurrence at which none is left is taken off the queue's set.

@@ -6,10 +6,9 @@ ghost use Rattle.flat_grammar.specs.Partition.{AreAllVisits};
 ghost use Rattle.flat_grammar.specs.WellFormed.{attribute_of};
 ghost use Rattle.visit_sequences.specs.Steps.{IsGoal, AreGoals, IsBefore, StandsBefore};
 
-use crate::bits::{members, with};
+use crate::bits::{members, with_small};
 use crate::rows::{row_at, symbol_at};
-use flat_grammar::bits::{has, union};
-use flat_grammar::{Deps, Flat, FlatComp, FlatRule, Occ, Parts, VisitClass, dependencies_of};
+use flat_grammar::{Bits, Deps, Flat, FlatComp, FlatRule, Occ, Parts, VisitClass, dependencies_of};
 use lido_base::{AttrId, Memory};
 use std::alloc::Global;
 
@@ -18,7 +17,7 @@ use std::alloc::Global;
 pub struct Goal {
     pub goal: Occ,
     /// Attributes of its own occurrence, by their numbers.
-    pub same: u128,
+    pub same: Bits,
     /// What its computation depends on.
     pub direct: Vec<Occ>,
 }
@@ -33,52 +32,52 @@ impl Goal {
 }
 
 /// The attributes that come before this one by the rows of induced dependencies.
-fn induced(rows: &[u128], b: AttrId) -> u128
-    ensures { (a : Attribute) → IsBitSet result a.0 ↔ ((a.0 < 128) × (row : ℕ) × (slice_get rows.now a.0 ≡ Some row) × IsBitSet row b.0) }
+fn induced(rows: &[Bits], b: AttrId) -> Bits
+    ensures { (a : Attribute) → IsBitSet result a.0 ↔ ((a.0 < 256) × (row : ℕ) × (slice_get rows.now a.0 ≡ Some row) × IsBitSet row b.0) }
 {
-    let mut set = 0;
+    let mut set = Bits::empty();
     for (a, row) in rows.iter().enumerate() {
-        if has(*row, b.0 as usize) {
-            set = with(set, a);
+        if row.has(b.0 as usize) {
+            set = with_small(set, a);
         }
     }
     set
 }
 
 /// The attributes of the classes that pass before the first one that has this attribute.
-fn earlier(row: &[VisitClass], b: AttrId) -> u128
-    requires { b.0 < 128 }
-    ensures { (a : Attribute) → IsBitSet result a.0 ↔ ((a.0 < 128) × StandsBefore row.now a b) }
+fn earlier(row: &[VisitClass], b: AttrId) -> Bits
+    requires { b.0 < 256 }
+    ensures { (a : Attribute) → IsBitSet result a.0 ↔ ((a.0 < 256) × StandsBefore row.now a b) }
 {
-    let mut set = 0;
+    let mut set = Bits::empty();
     for class in row {
         let inherited = members(class.inherited.as_slice());
-        if has(inherited, b.0 as usize) {
+        if inherited.has(b.0 as usize) {
             return set;
         }
-        let both = union(set, inherited);
+        let both = set.union(inherited);
         let synthesized = members(class.synthesized.as_slice());
-        if has(synthesized, b.0 as usize) {
+        if synthesized.has(b.0 as usize) {
             return both;
         }
-        set = union(both, synthesized);
+        set = both.union(synthesized);
     }
     set
 }
 
 /// The attributes of the goal's own occurrence that come before it.
-fn same_of(flat: &Flat, deps: &Deps, parts: &Parts, rule: &FlatRule, goal: Occ) -> u128
+fn same_of(flat: &Flat, deps: &Deps, parts: &Parts, rule: &FlatRule, goal: Occ) -> Bits
     requires rows { AreInducedRows flat.now.symbols flat.now.rules deps.now.ids }
     requires visits { AreAllVisits flat.now.symbols flat.now.rules parts.now.visits }
     requires attribute { IsSome (attribute_of flat.now.symbols rule.now goal) }
     ensures { (a : Attribute) → IsBitSet result a.0 ↔ IsBefore flat.now.symbols flat.now.rules rule.now goal a }
 {
     let Some(symbol) = symbol_at(rule, goal.occ) else {
-        return 0;
+        return Bits::empty();
     };
     let before = earlier(row_at(parts.visits.as_slice(), rule, goal.occ), goal.attr);
     match deps.ids.as_slice().get(symbol.0 as usize) {
-        Some(rows) => union(before, induced(rows.as_slice(), goal.attr)),
+        Some(rows) => before.union(induced(rows.as_slice(), goal.attr)),
         None => before,
     }
 }

@@ -5,10 +5,9 @@ ghost use Rattle.flat_grammar.specs.Construction.{IsChosen};
 ghost use Rattle.flat_grammar.specs.Partition.{AreAllVisits};
 ghost use Rattle.visit_sequences.specs.Steps.{place_of, Adds, Evaluates, Follows, Gives, Grows, HasBit, HasBitsOf, IsSameBut, Passes, PassesIn, row_of};
 
-use crate::bits::{members, with};
+use crate::bits::{members, with_small};
 use crate::rows::row_at;
-use flat_grammar::bits::{has, union};
-use flat_grammar::{Flat, FlatRule, Occ, Parts, PlanItem, VisitClass};
+use flat_grammar::{Bits, Flat, FlatRule, Occ, Parts, PlanItem, VisitClass};
 use lido_base::{AttrId, List, Memory};
 use std::alloc::{AllocError, Global};
 
@@ -17,9 +16,9 @@ use std::alloc::{AllocError, Global};
 pub struct Progress {
     pub items: Vec<PlanItem>,
     /// For each occurrence the attributes that the items evaluate, by their numbers.
-    pub evaluated: Vec<u128>,
+    pub evaluated: Vec<Bits>,
     /// For each occurrence the attributes that have their values.
-    pub at_hand: Vec<u128>,
+    pub at_hand: Vec<Bits>,
     /// For each child how many of its visits are among the items.
     pub made: Vec<usize>,
     /// The visit of the left side that goes on, from 1.
@@ -27,10 +26,10 @@ pub struct Progress {
 }
 
 /// So many empty sets.
-pub fn empty_sets(alloc: Global, count: usize) -> Result<Vec<u128>, AllocError>
+pub fn empty_sets(alloc: Global, count: usize) -> Result<Vec<Bits>, AllocError>
     ensures { IfOk result (λ sets. sets.items ≡ replicate count 0) }
 {
-    vec![in alloc; 0u128; count]
+    vec![in alloc; Bits::empty(); count]
 }
 
 /// So many zeros.
@@ -41,12 +40,12 @@ pub fn zeros(alloc: Global, count: usize) -> Result<Vec<usize>, AllocError>
 }
 
 /// Adds to the set of an occurrence, if there is one.
-fn add(sets: &mut Vec<u128>, k: usize, more: u128)
+fn add(sets: &mut Vec<Bits>, k: usize, more: Bits)
     ensures each { length sets.new.items ≡ length sets.old.items }
     ensures added { Adds sets.old.items sets.new.items k more }
 {
     if let Some(set) = sets.get_mut(k) {
-        *set = union(*set, more);
+        *set = set.union(more);
     }
 }
 
@@ -77,14 +76,14 @@ pub fn synthesized_in<'a>(row: &'a [VisitClass], visit: usize) -> &'a [AttrId]
 }
 
 /// What is inherited in this visit, by numbers.
-fn inherited(row: &[VisitClass], visit: usize) -> u128
+fn inherited(row: &[VisitClass], visit: usize) -> Bits
     ensures { HasBitsOf (λ c. c.inherited) row.now visit result }
 {
     members(inherited_in(row, visit))
 }
 
 /// What is synthesized in this visit, by numbers.
-fn synthesized(row: &[VisitClass], visit: usize) -> u128
+fn synthesized(row: &[VisitClass], visit: usize) -> Bits
     ensures { HasBitsOf (λ c. c.synthesized) row.now visit result }
 {
     members(synthesized_in(row, visit))
@@ -124,7 +123,7 @@ impl Progress {
         ensures { IsTrue result ↔ HasBit self.now.evaluated.items o }
     {
         match self.evaluated.get(o.occ as usize) {
-            Some(set) => has(*set, o.attr.0 as usize),
+            Some(set) => set.has(o.attr.0 as usize),
             None => false,
         }
     }
@@ -134,16 +133,19 @@ impl Progress {
         ensures { IsTrue result ↔ HasBit self.now.at_hand.items o }
     {
         match self.at_hand.get(o.occ as usize) {
-            Some(set) => has(*set, o.attr.0 as usize),
+            Some(set) => set.has(o.attr.0 as usize),
             None => false,
         }
     }
 
     /// The attributes of an occurrence that have their values.
-    pub fn at_hand_at(&self, occ: u16) -> u128
+    pub fn at_hand_at(&self, occ: u16) -> Bits
         ensures { result ≡ slice_index self.now.at_hand.items occ }
     {
-        self.at_hand.get(occ as usize).copied().unwrap_or(0)
+        self.at_hand
+            .get(occ as usize)
+            .copied()
+            .unwrap_or(Bits::empty())
     }
 
     /// Whether the items evaluate all these attributes of an occurrence.
@@ -173,7 +175,7 @@ impl Progress {
         ensures evaluated { Evaluates self.old.evaluated.items self.new.evaluated.items goal }
         ensures at_hand { Evaluates self.old.at_hand.items self.new.at_hand.items goal }
     {
-        let set = with(0, goal.attr.0 as usize);
+        let set = with_small(Bits::empty(), goal.attr.0 as usize);
         add(&mut self.evaluated, goal.occ as usize, set);
         add(&mut self.at_hand, goal.occ as usize, set);
     }

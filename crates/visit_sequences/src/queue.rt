@@ -6,12 +6,12 @@ ghost use Rattle.visit_sequences.specs.declared.goals.Goal.{Goal as Waiter};
 ghost use Rattle.visit_sequences.specs.declared.progress.Progress.{Progress as Before};
 ghost use Rattle.visit_sequences.specs.Steps.{AreFree, AreListed, AreSeen, Grows, HasBit, HasSeen, IsFree, IsListed, IsMissing, Keeps, Sorts, StandsIn, Waits, Wakes};
 
-use crate::bits::{least_new, with};
+use crate::bits::least_new;
 use crate::goals::Goal;
 use crate::listed::Listed;
 use crate::progress::{Progress, empty_sets, zeros};
-use flat_grammar::Occ;
-use lido_base::{AttrId, Memory};
+use flat_grammar::{Bits, Occ};
+use lido_base::Memory;
 use std::alloc::Global;
 use std::collections::{BTreeMap, BTreeSet};
 
@@ -25,7 +25,7 @@ pub struct Waiting {
 #[derive(Drop)]
 pub struct Queue {
     /// For each occurrence the goals that have all that they wait for, by their numbers. The evaluated ones stay.
-    pub free: Vec<u128>,
+    pub free: Vec<Bits>,
     /// What is missing, and the goals that wait for it.
     pub waiting: BTreeMap<Occ, Waiting>,
     /// For each goal of the list how many of its computation's dependencies, from the first on, were found at hand.
@@ -63,20 +63,20 @@ impl Queue {
         Ok(())
     }
 
-    /// The goal has all that it waits for. There is a set for each occurrence, and a symbol has no more than 128 attributes.
+    /// The goal has all that it waits for. There is a set for each occurrence, and a symbol has no more than 256 attributes.
     fn set_free(&mut self, goal: Occ) -> Result<(), Memory>
         ensures waiting { OnOk result (self.new.waiting ≡ self.old.waiting) }
         ensures seen { OnOk result (self.new.seen ≡ self.old.seen) }
         ensures free { OnOk result ((o : Occurrence) → HasBit self.new.free.items o ↔ (HasBit self.old.free.items o ⊎ (o ≡ goal))) }
         ensures left { OnOk result ((k : ℕ) → IsListed self.old.left k ⊎ (k ≡ goal.occ) → IsListed self.new.left k) }
     {
-        if goal.attr.0 >= 128 {
+        if goal.attr.0 >= 256 {
             return Err(Memory);
         }
         self.left.list(goal.occ)?;
         match self.free.get_mut(goal.occ as usize) {
             Some(set) => {
-                *set = with(*set, goal.attr.0 as usize);
+                *set = set.with(goal.attr.0 as usize);
                 Ok(())
             }
             None => Err(Memory),
@@ -114,10 +114,7 @@ impl Queue {
         self.note(at, count);
         let occ = goal.goal.occ;
         if let Some(attr) = least_new(goal.same, progress.at_hand_at(occ)) {
-            return Some(Occ {
-                occ,
-                attr: AttrId(attr),
-            });
+            return Some(Occ { occ, attr: attr });
         }
         goal.dependency(count)
     }

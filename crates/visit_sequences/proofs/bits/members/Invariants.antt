@@ -5,4 +5,4 @@ use Rattle.visit_sequences.proofs.bits.members.Given as goal
 
 -- the set has what was looked at
 abbrev pub invariant-loop-attr : goal.invariant-loop-attr
-invariant-loop-attr l = (a : AttrId) → IsBitSet l.set a.0 ↔ ((a.0 < 128) × Contains (take l.attr-index l.attrs) a)
+invariant-loop-attr l = (a : AttrId) → IsBitSet l.set a.0 ↔ ((a.0 < 256) × Contains (take l.attr-index l.attrs) a)

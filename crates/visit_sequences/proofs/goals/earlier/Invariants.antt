@@ -7,6 +7,6 @@ use Rattle.visit_sequences.proofs.goals.earlier.Given as goal
 -- the set has what passed so far, and the attribute is none of it
 abbrev pub invariant-loop-class : goal.invariant-loop-class
 invariant-loop-class l = record {
-  set : (a : AttrId) → IsBitSet l.set a.0 ↔ ((a.0 < 128) × PassedBefore l.row l.class-index a);
+  set : (a : AttrId) → IsBitSet l.set a.0 ↔ ((a.0 < 256) × PassedBefore l.row l.class-index a);
   lacks : LacksBefore l.row l.class-index l.b;
 }

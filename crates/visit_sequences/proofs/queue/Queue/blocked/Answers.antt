@@ -5,7 +5,7 @@ use Rattle.visit_sequences.proofs.QueueLemmas.{missing-or-free, noted-here}
 use Rattle.visit_sequences.proofs.queue.Queue.blocked.Goals as goal
 
 pub returns-in-Some-clause-blocked : goal.returns-in-Some-clause-blocked
-returns-in-Some-clause-blocked c = (inl (refl, c.in-Some.ensures.1), (λ b. c.in-Some.ensures.2 (subst (λ n. IsBitSet n c.in-Some.attr) (sym c.at_hand_at.ensures) b)))
+returns-in-Some-clause-blocked c = (inl (refl, c.in-Some.ensures.1), (λ b. c.in-Some.ensures.2 (subst (λ n. IsBitSet n c.in-Some.attr.0) (sym c.at_hand_at.ensures) b)))
 
 pub returns-in-Some-clause-seen : goal.returns-in-Some-clause-seen
 returns-in-Some-clause-seen c =

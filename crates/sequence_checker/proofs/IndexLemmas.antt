@@ -10,7 +10,7 @@ use Rattle.flat_grammar.specs.declared.flat.FlatComp.{FlatComp}
 use Rattle.flat_grammar.specs.WellFormed.{is_same_occ}
 use Rattle.flat_grammar.proofs.Lists.{slice_get-take}
 use Rattle.sequence_checker.specs.declared.goals.Goals.{Goals}
-use Rattle.sequence_checker.specs.Goals.{place_of, IsPlace, IsIndexOf}
+use Rattle.sequence_checker.specs.Goals.{goal_place, IsPlace, IsIndexOf}
 use Rattle.sequence_checker.proofs.Bools.{never, same-occurrence, occurrence-same}
 use Rattle.sequence_checker.proofs.GoalLemmas.{goal-computation, computation-goal}
 
@@ -32,17 +32,17 @@ module _ (comps : List FlatComp) (i : ℕ) (c : FlatComp) (within : i < length c
       let before : k < i = omega arith in
       (d, slice_get-take comps (i + 1) k (omega arith) ∙ (sym (slice_get-take comps i k before) ∙ e), g)
 
-  pub index-more : (old new : Goals) → IsIndexOf (take i comps) old → ((o : Occ) → place_of new o ≡ cond (is_same_occ c.goal o) (Some i) (place_of old o)) → IsIndexOf (take (i + 1) comps) new
+  pub index-more : (old new : Goals) → IsIndexOf (take i comps) old → ((o : Occ) → goal_place new o ≡ cond (is_same_occ c.goal o) (Some i) (goal_place old o)) → IsIndexOf (take (i + 1) comps) new
   index-more old new index noted o = by (is_same_occ c.goal o) refl
     where
-      by : (b : Bool) → is_same_occ c.goal o ≡ b → IsPlace (take (i + 1) comps) o (place_of new o)
-      by true e = subst (IsPlace (take (i + 1) comps) o) (sym (noted o ∙ ap (λ b. cond b (Some i) (place_of old o)) e)) (c, slice_get-take comps (i + 1) i (omega arith) ∙ there, same-occurrence c.goal o e)
-      by false e = subst (IsPlace (take (i + 1) comps) o) (sym (noted o ∙ ap (λ b. cond b (Some i) (place_of old o)) e)) (still o e (place_of old o) (index o))
+      by : (b : Bool) → is_same_occ c.goal o ≡ b → IsPlace (take (i + 1) comps) o (goal_place new o)
+      by true e = subst (IsPlace (take (i + 1) comps) o) (sym (noted o ∙ ap (λ b. cond b (Some i) (goal_place old o)) e)) (c, slice_get-take comps (i + 1) i (omega arith) ∙ there, same-occurrence c.goal o e)
+      by false e = subst (IsPlace (take (i + 1) comps) o) (sym (noted o ∙ ap (λ b. cond b (Some i) (goal_place old o)) e)) (still o e (goal_place old o) (index o))
 
 pub whole-index : (comps seen : List FlatComp) (i : ℕ) (g : Goals) → seen ≡ comps → length seen ≤ i → IsIndexOf (take i comps) g → IsIndexOf comps g
 whole-index comps seen i g same past index = subst (λ l. IsIndexOf l g) (take_all i comps (let e = ap (λ (l : List FlatComp). length l) same in omega arith)) index
 
 pub index-step : (comps seen : List FlatComp) (i : ℕ) (c : FlatComp) (old new : Goals) → seen ≡ comps → i < length seen → c ≡ slice_index_or seen i c → IsIndexOf (take i comps) old
-    → ((o : Occ) → place_of new o ≡ cond (is_same_occ c.goal o) (Some i) (place_of old o)) → IsIndexOf (take (i + 1) comps) new
+    → ((o : Occ) → goal_place new o ≡ cond (is_same_occ c.goal o) (Some i) (goal_place old o)) → IsIndexOf (take (i + 1) comps) new
 index-step comps seen i c old new same within at index noted =
     index-more comps i c (let e = ap (λ (l : List FlatComp). length l) same in omega arith) (at ∙ ap (λ l. slice_index_or l i c) same) old new index noted

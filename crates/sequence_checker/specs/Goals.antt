@@ -10,8 +10,8 @@ abbrev pub is_same_pair : ℕ × ℕ → ℕ × ℕ → Bool
 is_same_pair p q = nat_eq p.0 q.0 && nat_eq p.1 q.1
 
 -- the place that the index has for a goal
-unfoldable pub place_of : Goals → Occ → Option ℕ
-place_of g o = table.get is_same_pair g.places (o.occ, o.attr.0)
+unfoldable pub goal_place : Goals → Occ → Option ℕ
+goal_place g o = table.get is_same_pair g.places (o.occ, o.attr.0)
 
 -- a computation of the goal stands at the place, or none has the goal
 abbrev pub IsPlace : List FlatComp → Occ → Option ℕ → Type 0
@@ -20,4 +20,4 @@ IsPlace comps o (Some k) = (c : FlatComp) × (slice_get comps k ≡ Some c) × (
 
 -- the index has the place of each goal
 abbrev pub IsIndexOf : List FlatComp → Goals → Type 0
-IsIndexOf comps g = (o : Occ) → IsPlace comps o (place_of g o)
+IsIndexOf comps g = (o : Occ) → IsPlace comps o (goal_place g o)

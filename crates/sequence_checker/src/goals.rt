@@ -3,7 +3,7 @@ ghost use Rattle.std.specs.Prelude.{◌≡◌, None, Some, MatchOption, IfOk, On
 ghost use Rattle.flat_grammar.specs.declared.flat.Occ.{Occ as Occurrence};
 ghost use Rattle.flat_grammar.specs.WellFormed.{is_same_occ};
 ghost use Rattle.flat_grammar.specs.SoundPlan.{goals_of};
-ghost use Rattle.sequence_checker.specs.Goals.{place_of, IsIndexOf};
+ghost use Rattle.sequence_checker.specs.Goals.{goal_place, IsIndexOf};
 
 use flat_grammar::{FlatComp, FlatRule, Occ};
 use lido_base::Memory;
@@ -18,9 +18,9 @@ pub struct Goals {
 
 impl Goals {
     /// The index without entries.
-    #[tactic(auto, unfolding(crate::specs::Goals::place_of))]
+    #[tactic(auto, unfolding(crate::specs::Goals::goal_place))]
     fn new(alloc: Global) -> Goals
-        ensures { (o : Occurrence) → place_of result o ≡ None }
+        ensures { (o : Occurrence) → goal_place result o ≡ None }
     {
         Goals {
             places: HashMap::new(alloc),
@@ -28,9 +28,9 @@ impl Goals {
     }
 
     /// Notes the place of a goal.
-    #[tactic(auto, unfolding(crate::specs::Goals::place_of))]
+    #[tactic(auto, unfolding(crate::specs::Goals::goal_place))]
     fn note(&mut self, goal: Occ, place: usize) -> Result<(), Memory>
-        ensures { OnOk result ((o : Occurrence) → place_of self.new o ≡ (if is_same_occ goal o then Some place else place_of self.old o)) }
+        ensures { OnOk result ((o : Occurrence) → goal_place self.new o ≡ (if is_same_occ goal o then Some place else goal_place self.old o)) }
     {
         self.places.insert((goal.occ, goal.attr.0), place)?;
         Ok(())
@@ -48,9 +48,9 @@ impl Goals {
     }
 
     /// The place of a goal.
-    #[tactic(auto, unfolding(crate::specs::Goals::place_of))]
+    #[tactic(auto, unfolding(crate::specs::Goals::goal_place))]
     fn place(&self, goal: Occ) -> Option<usize>
-        ensures { result ≡ place_of self.now goal }
+        ensures { result ≡ goal_place self.now goal }
     {
         self.places.get(&(goal.occ, goal.attr.0)).copied()
     }

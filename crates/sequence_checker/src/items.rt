@@ -13,8 +13,8 @@ ghost use Rattle.sequence_checker.specs.Faults.{JudgesItem, JudgesEnd, is_visite
 
 use crate::goals::Goals;
 use crate::progress::Progress;
-use crate::visits::{class_at, is_attribute, row_at};
-use flat_grammar::{FlatRule, FlatSymbol, Occ, PlanItem, VisitClass};
+use crate::visits::{class_at, is_attribute};
+use flat_grammar::{FlatRule, FlatSymbol, Occ, PlanItem, VisitClass, row_at};
 use lido_base::{List, Memory, SymId};
 use std::alloc::Global;
 

@@ -76,7 +76,7 @@ fn members(
 
 /// Whether the set has all attributes of this kind.
 fn has_all_of_kind(symbol: &FlatSymbol, kind: Kind, set: &Occurrences) -> bool
-    requires { length symbol.now.attrs ≤ 128 }
+    requires { length symbol.now.attrs ≤ 256 }
     ensures { IsTrue result ↔ ((attr : Attribute) → IsAttribute symbol.now kind attr → IsTrue (has_attribute set.now attr)) }
 {
     for k in 0..symbol.attrs.len() {
@@ -95,7 +95,7 @@ fn numbers_kind(
     kind: Kind,
     row: &[VisitClass],
 ) -> Result<bool, Memory>
-    requires { length symbol.now.attrs ≤ 128 }
+    requires { length symbol.now.attrs ≤ 256 }
     ensures { IfOk result (λ right. IsTrue right ↔ AreNumbered symbol.now kind (of_kind kind row.now)) }
 {
     let attrs = attributes_of_kind(alloc, kind, row)?;
@@ -107,7 +107,7 @@ fn numbers_kind(
 
 /// Whether it is a right row of visits for the symbol.
 fn is_row(alloc: Global, symbol: &FlatSymbol, row: &[VisitClass]) -> Result<bool, Memory>
-    requires { length symbol.now.attrs ≤ 128 }
+    requires { length symbol.now.attrs ≤ 256 }
     ensures { IfOk result (λ right. IsTrue right ↔ IsRow symbol.now row.now) }
 {
     if symbol.terminal.is_some() != row.is_empty() {
@@ -125,7 +125,7 @@ pub fn are_rows(
     symbols: &[FlatSymbol],
     visits: &[List<VisitClass>],
 ) -> Result<bool, Memory>
-    requires { All (λ symbol. length symbol.attrs ≤ 128) symbols.now }
+    requires { All (λ symbol. length symbol.attrs ≤ 256) symbols.now }
     ensures { IfOk result (λ right. IsTrue right ↔ AllZip IsRow symbols.now visits.now) }
 {
     if symbols.len() != visits.len() {

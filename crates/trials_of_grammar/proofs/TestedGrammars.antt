@@ -1,7 +1,7 @@
 -- Tests that a rule and a grammar are well formed.
 use Rattle.std.specs.Prelude.{All, AllPairs, slice_get, nat_eq, nat_lt, nat_le, Bool, true, false, IsTrue, not, ◌&&◌, is_some, sum_by, option_and_then, ◌^◌}
 use Rattle.std.specs.List.{list_any, list_all, AllByRecursion, slice_index_or}
-use Rattle.std.proofs.Common.{◌≡◌, ℕ, zero, suc, ◌<◌, ◌≤◌, ◌⊎◌, inl, inr, List, [], ◌∷◌, map, length, Option, Some, None, refl, arith, ap, sym, ◌∙◌, ltb-true, leb-true}
+use Rattle.std.proofs.Common.{◌≡◌, ℕ, zero, suc, ◌<◌, ◌≤◌, ◌⊎◌, inl, inr, List, [], ◌∷◌, map, length, Option, Some, None, refl, arith, ap, sym, subst, ◌∙◌, ltb-true, leb-true}
 use Rattle.std.proofs.lemmas.Bool.{cases_lt}
 use Rattle.std.proofs.lemmas.Option.{slice_get_past}
 use Rattle.std.proofs.lemmas.List.Kept.{AllPairs-cons}
@@ -167,3 +167,9 @@ module _ (symbols : List FlatSymbol) (rules : List FlatRule) (shapes : List Shap
     few_attributes = λ k d l. leb-true _ _ (all-tested (λ (x : FlatSymbol). nat_le (length x.attrs) 256) symbols t.few_attributes k d l);
     few_occurrences = λ k d l. leb-true _ _ (all-tested (λ (r : FlatRule). nat_le (sum_by (λ s. length (attrs_of symbols s)) (symbols_of r)) 1024) rules t.few_occurrences k d l);
   }
+
+-- a grammar whose parts are those of a well formed one
+pub same-well-formed : (symbols of_symbols : List FlatSymbol) (rules of_rules : List FlatRule) (shapes of_shapes : List Shape) (root : SymId) → of_symbols ≡ symbols → of_rules ≡ rules → of_shapes ≡ shapes
+    → IsWellFormed symbols rules shapes root → IsWellFormed of_symbols of_rules of_shapes root
+same-well-formed symbols of_symbols rules of_rules shapes of_shapes root e f g h =
+    subst (λ s. IsWellFormed s of_rules of_shapes root) (sym e) (subst (λ r. IsWellFormed symbols r of_shapes root) (sym f) (subst (λ s. IsWellFormed symbols rules s root) (sym g) h))

@@ -1,5 +1,7 @@
-//! The time of the analysis of grammars as large as they can be. Nothing stands on this crate.
+//! The analysis of grammars as large as they can be, in bounded time. Nothing stands on this crate.
 #![tactic(auto)]
 
 #[cfg(test)]
-mod tests;
+mod size_tests;
+#[cfg(test)]
+mod visit_tests;

@@ -1,2 +1,2 @@
 pub mod NoArgument
-pub mod WellFormedGrammar
+pub mod WellFormedGrammars

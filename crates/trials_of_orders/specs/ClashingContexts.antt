@@ -20,13 +20,13 @@ use Rattle.flat_grammar.specs.declared.flat.Shape.{Shape}
 use Rattle.trials_of_grammar.specs.ListOfItems.{symbol, occurrence}
 
 abbrev pub number : ℕ → Kind → FlatAttr
-number name kind = record { name = record { 0 = name }; kind = kind; ty = type.Int; written = true }
+number name kind = record { name = record { 0 = name }; kind = kind; ty = type.Int; written = true; message = false }
 
 -- X with s1, i1, s2 and i2, S with $out
 abbrev pub symbols : List FlatSymbol
 symbols =
     record { name = record { 0 = 0 }; terminal = None; attrs = number 20 Synthesized ∷ number 21 Inherited ∷ number 22 Synthesized ∷ number 23 Inherited ∷ [] }
-    ∷ record { name = record { 0 = 1 }; terminal = None; attrs = record { name = record { 0 = 24 }; kind = Synthesized; ty = type.Text; written = true } ∷ [] }
+    ∷ record { name = record { 0 = 1 }; terminal = None; attrs = record { name = record { 0 = 24 }; kind = Synthesized; ty = type.Text; written = true; message = false } ∷ [] }
     ∷ []
 
 abbrev pub gives : Occ → FlatExpr → FlatComp

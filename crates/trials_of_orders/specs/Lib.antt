@@ -1,1 +1,3 @@
+pub mod BareLeaf
 pub mod ClashingContexts
+pub mod TwoVisits

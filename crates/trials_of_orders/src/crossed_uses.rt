@@ -7,7 +7,7 @@ ghost use Rattle.trials_of_grammar.specs.CrossedUses.{symbols as two_symbols, ru
 use flat_grammar::{Flat, FlatExpr, FlatRule, FlatSymbol, Shape};
 use lido_base::{Kind, List, Memory, Op, SymId, Value, ValueType};
 use std::alloc::Global;
-use trials_of_plans::parts::{
+use trials_of_grammar::parts::{
     attribute, computation, occurrence, one, plain_shape, rule, symbol, three, two,
 };
 

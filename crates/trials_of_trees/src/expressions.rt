@@ -5,7 +5,7 @@ ghost use Rattle.trials_of_trees.specs.Expressions.{symbols as seven_symbols, ru
 use flat_grammar::{Flat, FlatAttr, FlatComp, FlatExpr, FlatRule, FlatSymbol, Shape};
 use lido_base::{Kind, List, Memory, Op, RuleId, SymId, Value, ValueType};
 use std::alloc::Global;
-use trials_of_plans::parts::{computation, occurrence, one, plain_shape, rule, symbol, three, two};
+use trials_of_grammar::parts::{computation, occurrence, one, plain_shape, rule, symbol, three, two};
 
 /// The names of the symbols, the attributes and the rules, in the order of their ids.
 pub const NAMES: [&str; 24] = [
@@ -39,7 +39,7 @@ pub const NAMES: [&str; 24] = [
 fn made(name: u32) -> FlatAttr
     ensures { result ≡ attribute name }
 {
-    trials_of_plans::parts::attribute(name, Kind::Synthesized, ValueType::Text)
+    trials_of_grammar::parts::attribute(name, Kind::Synthesized, ValueType::Text)
 }
 
 /// A nonterminal with this attribute.

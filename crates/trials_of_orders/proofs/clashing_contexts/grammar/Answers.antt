@@ -1,7 +1,7 @@
 use Rattle.trials_of_grammar.specs.ListOfItems.{symbol}
-use Rattle.trials_of_plans.proofs.WellFormedGrammars.{same-well-formed}
+use Rattle.trials_of_grammar.proofs.TestedGrammars.{same-well-formed}
 use Rattle.trials_of_orders.specs.ClashingContexts.{symbols, rules, shapes}
-use Rattle.trials_of_orders.proofs.WellFormedGrammar.{clashing-well-formed}
+use Rattle.trials_of_orders.proofs.WellFormedGrammars.{clashing-well-formed}
 use Rattle.trials_of_orders.proofs.clashing_contexts.grammar.Goals as goal
 
 pub invariant_of-result : goal.invariant_of-result

@@ -1,7 +1,7 @@
 use Rattle.trials_of_grammar.specs.CrossedUses.{symbols, rules, shapes}
 use Rattle.trials_of_grammar.specs.ListOfItems.{symbol}
 use Rattle.trials_of_grammar.proofs.PlainGrammars.{crossed-well-formed}
-use Rattle.trials_of_plans.proofs.WellFormedGrammars.{same-well-formed}
+use Rattle.trials_of_grammar.proofs.TestedGrammars.{same-well-formed}
 use Rattle.trials_of_orders.proofs.crossed_uses.grammar.Goals as goal
 
 pub invariant_of-result : goal.invariant_of-result

@@ -1,6 +1,6 @@
 use Rattle.trials_of_trees.specs.Expressions.{symbols, rules, shapes}
 use Rattle.trials_of_grammar.specs.ListOfItems.{symbol}
-use Rattle.trials_of_plans.proofs.WellFormedGrammars.{same-well-formed}
+use Rattle.trials_of_grammar.proofs.TestedGrammars.{same-well-formed}
 use Rattle.trials_of_trees.proofs.WellFormedGrammar.{expressions-well-formed}
 use Rattle.trials_of_trees.proofs.expressions.grammar.Goals as goal
 

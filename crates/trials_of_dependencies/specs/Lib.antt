@@ -1,2 +1,0 @@
-pub mod EmptyText
-pub mod OppositeOrders

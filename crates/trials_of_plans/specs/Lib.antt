@@ -1,3 +1,0 @@
-pub mod BareLeaf
-pub mod CopiedText
-pub mod TwoVisits

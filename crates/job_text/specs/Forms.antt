@@ -1,6 +1,7 @@
 -- The forms that the words of a command line have. Our own.
 use Rattle.std.specs.Prelude.{ℕ, List, [], ◌∷◌, length, drop, Bool, true, false, ◌&&◌, ◌||◌, ◌==◌, if◌then◌else◌, nat_eq, nat_lt, nat_le, Option, Some, None, is_some, option_and_then, slice_get, bytes_eq, codes}
-use Rattle.std.specs.Char.{is_ascii_digit, is_ascii_alphabetic}
+use Rattle.std.specs.Char.{is_ascii_digit}
+use Rattle.lido_base.specs.Bytes.{is_letter, is_name_byte}
 use Rattle.std.specs.List.{starts_with, list_all}
 use Rattle.std.specs.Str.Parse.{digits_value}
 use Rattle.job_text.specs.declared.forms.Verb.{Verb}
@@ -33,14 +34,6 @@ key Count = []
 -- 1 to 10 decimal digits
 unfoldable pub is_number : List ℕ → Bool
 is_number value = nat_lt 0 (length value) && nat_le (length value) 10 && list_all is_ascii_digit value
-
--- an ASCII letter or an underscore
-abbrev pub is_letter : ℕ → Bool
-is_letter byte = is_ascii_alphabetic byte || byte == 95
-
--- a letter, an underscore or a digit
-abbrev pub is_name_byte : ℕ → Bool
-is_name_byte byte = is_letter byte || is_ascii_digit byte
 
 -- a letter or an underscore, then letters, digits and underscores
 unfoldable pub is_identifier : List ℕ → Bool

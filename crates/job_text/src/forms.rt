@@ -3,7 +3,8 @@ ghost use Rattle.std.specs.Prelude.{◌≡◌, ◌<◌, IsTrue, map, string_byte
 ghost use Rattle.std.specs.Char.{is_ascii_digit};
 ghost use Rattle.std.specs.List.{list_all, list_any};
 ghost use Rattle.std.specs.Str.Parse.{digits_value};
-ghost use Rattle.job_text.specs.Forms.{verb_of, first_verb, key, is_letter, is_name_byte, is_number, is_identifier, is_value, has_form, number_of, most_of, is_outside, is_repeatable, is_needed};
+ghost use Rattle.lido_base.specs.Bytes.{is_letter, is_name_byte};
+ghost use Rattle.job_text.specs.Forms.{verb_of, first_verb, key, is_number, is_identifier, is_value, has_form, number_of, most_of, is_outside, is_repeatable, is_needed};
 
 /// What the first word asks for.
 #[derive(Clone, Copy, Debug, PartialEq, Eq)]

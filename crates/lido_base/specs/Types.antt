@@ -13,13 +13,15 @@ pub record Signature : Type 0 where
   pub args : List ValueType
   pub gives : ValueType
 
+-- The row with these types.
 abbrev pub of_types : List ValueType → ValueType → Signature
 of_types args gives = record { args = args; gives = gives }
 
+-- All types, where a function takes any.
 abbrev pub all_types : List ValueType
 all_types = Int ∷ Str ∷ Bool ∷ Text ∷ Void ∷ []
 
--- two of one type, of these types
+-- For each of these types two arguments of it, which are compared.
 abbrev pub two_alike : List ValueType → List Signature
 two_alike types = map (λ ty. of_types (ty ∷ ty ∷ []) Bool) types
 

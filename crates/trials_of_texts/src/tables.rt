@@ -27,6 +27,8 @@ fn a_million_texts(rt: HostRuntime) -> Result<(), Fail> {
         assert!(rt; (id.0 as usize) < strings.len());
         assert_eq!(rt; strings.bytes(id), text.as_slice());
     }
+    assert!(rt; strings.find(&777_777u32.to_le_bytes()).is_some());
+    assert!(rt; strings.find(b"no such text").is_none());
     assert_eq!(rt; strings.len(), 1_000_000);
     assert!(rt; start.elapsed(&rt)?.as_secs() < 20);
     Ok(())

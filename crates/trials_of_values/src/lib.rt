@@ -4,12 +4,14 @@
 
 mod contents;
 mod graphs;
+mod kinds;
 mod operations;
 mod systems;
 mod trees;
 
 pub use contents::Sample;
 pub use graphs::{the_least_path, what_reaches_a_source};
+pub use kinds::{rows_of_types, the_first_of_three_kinds};
 pub use operations::{
     arithmetic_at_its_edges, bad_arguments, braces, braces_of_every_pattern, comparisons, division,
     kept_values, plain_functions, text_lengths, worked_expressions,

@@ -19,7 +19,7 @@ abbrev pub answered : ℕ → ℕ → Result Value BadKind → Value
 answered node comp (Ok v) = v
 answered node comp (Err kind) = value.Bad (record { node = node; comp = comp; kind = kind })
 
--- a plain value that is no string and no text, as a value
+-- A plain value that is no string and no text, as a value.
 abbrev pub from_plain : Plain → Value
 from_plain (Int z) = value.Int z
 from_plain (Truth b) = value.Bool b
@@ -27,13 +27,13 @@ from_plain (Bad o) = value.Bad o
 from_plain _ = value.Void
 
 module _ (texts : List (List ℕ)) (patterns : List Pattern) (number : ℕ) where
-  -- the text of a piece, by its length: a deposit behind those of the room, or TextTooLong
+  -- The text of a piece, by its length: a deposit behind those of the room, or TextTooLong.
   abbrev pub text_result : ℕ → ℕ → ℕ → Piece → List Value → List Deposit → Value × List Deposit
   text_result node comp len piece args ds =
       if nat_le len (2 ^ 30) then (value.Text (record { room = number; node = 1 + cells_of ds; len = len }), ds ++ record { piece = piece; args = args; len = len } ∷ [])
       else (value.Bad (record { node = node; comp = comp; kind = TextTooLong }), ds)
 
-  -- what a piece gives: a text where the arguments fit
+  -- What a piece gives: a text where the arguments fit it, else Void.
   abbrev pub piece_result : ℕ → ℕ → Piece → List Value → List Deposit → Value × List Deposit
   piece_result node comp piece args ds = if fits piece args then text_result node comp (parts_len texts args (parts_of patterns piece)) piece args ds else (value.Void, ds)
 

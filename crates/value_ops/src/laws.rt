@@ -1,5 +1,5 @@
-//! Laws of the definitions. The function does nothing; what is proved is its contract.
-ghost use Rattle.std.specs.Prelude.{List, ℕ};
+//! Laws of the definitions. Each function does nothing; what is proved is its contract.
+ghost use Rattle.std.specs.Prelude.{List, ℕ, [], ◌∷◌};
 ghost use Rattle.std.specs.List.{AllZip};
 ghost use Rattle.lido_base.specs.Operations.{operate};
 ghost use Rattle.lido_base.specs.Plain.{Plain};
@@ -17,4 +17,9 @@ pub fn results_stand_for_plain_values()
         → (node comp : ℕ) (op : Op) (args : List Value) (plains : List Plain) (ds : List Deposit)
         → AllZip (StandsFor texts patterns (rooms ds)) args plains
         → StandsAfter texts patterns rooms ds (result_of texts patterns number node comp op args ds) (operate texts patterns (bad_at node comp) op plains) }
+{}
+
+/// One room alone, with whatever space, has what the law above asks of the rooms of a run.
+pub fn one_room_is_a_family()
+    ensures { (space : ℕ) → IsFamily 0 (λ (ds : List Deposit). record { number = 0; deposits = ds; space = space } ∷ []) }
 {}

@@ -1,4 +1,4 @@
-use Rattle.std.specs.Prelude.{◌≡◌, ◌<◌, ◌⊎◌, [], ◌∷◌, ℕ, List, length}
+use Rattle.std.specs.Prelude.{◌<◌, [], ◌∷◌, ℕ, List, length}
 use Rattle.std.proofs.Common.{inl, inr, refl, arith}
 use Rattle.lido_base.specs.Reach.{IsNotBehind, IsNoLater}
 use Rattle.trials_of_values.proofs.graphs.the_least_path.Goals as goal

@@ -38,8 +38,8 @@ module _ (spec : Spec) (sets : Sets spec) (env : Environment) (t : Tree Plain) (
   -- gives. So it is Bad where the condition is, Void where the condition is false, and else the text, which can be Bad too.
   pub data IsMessage (n : ℕ) (c : Comp) : Plain → Type 0 where
     unconditional : {s : Severity} {text : Plain} → c.target ≡ target.Message s None → IsComputed spec sets env t A n by_rule c text → IsMessage n c text
-    conditional : {s : Severity} {e : Expr} {condition text : Plain} → c.target ≡ target.Message s (Some e) → IsValue spec sets env t A n by_rule c.number e condition → IsComputed spec sets env t A n by_rule c text
-        → IsMessage n c (chosen (condition ∷ text ∷ Void ∷ []))
+    conditional : {s : Severity} {e : Expr} {condition text : Plain} → c.target ≡ target.Message s (Some e) → IsValue spec sets env t A n by_rule c.number e condition
+        → IsComputed spec sets env t A n by_rule c text → IsMessage n c (chosen (condition ∷ text ∷ Void ∷ []))
 
   -- what it adds to the notes: nothing where it gives no message, and else the message
   pub data IsNote (n : ℕ) (c : Comp) : List ℕ → Type 0 where

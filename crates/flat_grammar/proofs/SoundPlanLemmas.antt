@@ -1,10 +1,10 @@
 -- What a sound plan keeps, and that a plan has one first fault.
 use Rattle.std.specs.Prelude.{Contains, slice_get}
 use Rattle.std.specs.List.{AllZip}
-use Rattle.std.proofs.Common.{◌≡◌, ℕ, ◌<◌, ◌⊎◌, inl, inr, List, length, take, Some, refl, arith, ap, sym, subst, ◌∙◌}
+use Rattle.std.proofs.Common.{◌≡◌, ℕ, ◌<◌, ◌⊎◌, inl, inr, List, [], ◌∷◌, ◌++◌, length, take, Some, refl, arith, ap, sym, subst, ◌∙◌}
 use Rattle.std.proofs.lemmas.Bool.{cases_order}
 use Rattle.std.proofs.lemmas.Option.{slice_get_past, slice_get_within}
-use Rattle.std.proofs.lemmas.List.{take_all}
+use Rattle.std.proofs.lemmas.List.{take_at, take_all}
 use Rattle.std.proofs.lemmas.List.Elements.{All-contains}
 use Rattle.flat_grammar.specs.declared.flat.Occ.{Occ}
 use Rattle.flat_grammar.specs.declared.flat.FlatSymbol.{FlatSymbol}
@@ -12,24 +12,37 @@ use Rattle.flat_grammar.specs.declared.flat.FlatRule.{FlatRule}
 use Rattle.flat_grammar.specs.declared.plan.VisitClass.{VisitClass}
 use Rattle.flat_grammar.specs.declared.plan.PlanItem.{PlanItem}
 use Rattle.flat_grammar.specs.declared.plan.PlanItem.TheVariants.{Eval}
-use Rattle.flat_grammar.specs.SoundPlan.{IsEvaluated, goals_of, AllowsNext, AllowsEnd, IsSoundSequence, IsFault, IsSound, IsUnsound, of_rows, of_rule}
+use Rattle.flat_grammar.specs.SoundPlan.{IsEvaluated, goals_of, Allows, AllowsNext, AllowsEnd, IsSoundSequence, IsFault, IsSound, IsUnsound, of_rows, of_rule}
 use Rattle.flat_grammar.proofs.Lists.{held, contains-take, slice_get-contains, slice_get-take, AllZip-at}
 
-module _ (symbols : List FlatSymbol) (visits : List (List VisitClass)) (r : FlatRule) (seq : List PlanItem) where
-  at-place : (sound : IsSoundSequence symbols visits r seq) (place : ℕ) (item : PlanItem) (clause : ℕ) → slice_get seq place ≡ Some item → AllowsNext symbols visits r clause (take place seq) (Some item)
-  at-place sound place item clause e = let h = slice_get_within seq place item e in subst (λ o. AllowsNext symbols visits r clause (take place seq) o) e (sound place clause (omega arith))
+get-behind : {A : Type 0} (xs ys : List A) (x : A) → slice_get (xs ++ x ∷ ys) (length xs) ≡ Some x
+get-behind [] ys x = refl
+get-behind (y ∷ xs) ys x = get-behind xs ys x
 
-  at-end : (sound : IsSoundSequence symbols visits r seq) (clause : ℕ) → AllowsEnd symbols visits r clause seq
+module _ (symbols : List FlatSymbol) (visits : List (List VisitClass)) (r : FlatRule) (seq : List PlanItem) where
+  at-number : (sound : IsSoundSequence symbols visits r seq) (place : ℕ) (item : PlanItem) (clause : ℕ) → slice_get seq place ≡ Some item → AllowsNext symbols visits r clause (take place seq) (Some item)
+  at-number sound place item clause e = let h = slice_get_within seq place item e in subst (λ o. AllowsNext symbols visits r clause (take place seq) o) e (sound place clause (omega arith))
+
+  -- each item of a sound sequence is allowed by all that stand before it
+  pub at-place : (sound : IsSoundSequence symbols visits r seq) (before after : List PlanItem) (item : PlanItem) (clause : ℕ) → seq ≡ before ++ item ∷ after → Allows symbols visits r clause before item
+  at-place sound before after item clause e =
+      let n = length before in
+      let front : take n seq ≡ before = ap (λ l. take n l) e ∙ take_at before (item ∷ after) n refl in
+      let next : slice_get seq n ≡ Some item = ap (λ l. slice_get l n) e ∙ get-behind before after item in
+      subst (λ l. Allows symbols visits r clause l item) front (at-number sound n item clause next)
+
+  -- a sound sequence may end where it ends
+  pub at-end : (sound : IsSoundSequence symbols visits r seq) (clause : ℕ) → AllowsEnd symbols visits r clause seq
   at-end sound clause =
       subst (λ before. AllowsEnd symbols visits r clause before) (take_all (length seq) seq (omega arith))
       (subst (λ o. AllowsNext symbols visits r clause (take (length seq) seq) o) (slice_get_past seq (length seq) (omega arith)) (sound (length seq) clause (omega arith)))
 
   -- an item of a sound sequence evaluates a goal alone
   pub goals-alone : IsSoundSequence symbols visits r seq → (place : ℕ) (o : Occ) → slice_get seq place ≡ Some (Eval o) → Contains (goals_of r) o
-  goals-alone sound place o e = (at-place sound place (Eval o) 1 e).0
+  goals-alone sound place o e = (at-number sound place (Eval o) 1 e).0
 
   earlier-none : IsSoundSequence symbols visits r seq → (j k : ℕ) (o : Occ) → slice_get seq j ≡ Some (Eval o) → slice_get seq k ≡ Some (Eval o) → j < k → ⊥
-  earlier-none sound j k o e f h = (at-place sound k (Eval o) 1 f).1 (contains-take seq j k (Eval o) e h)
+  earlier-none sound j k o e f h = (at-number sound k (Eval o) 1 f).1 (contains-take seq j k (Eval o) e h)
 
   -- a sound sequence evaluates each goal at exactly one place
   pub goals-once : IsSoundSequence symbols visits r seq → (o : Occ) → Contains (goals_of r) o

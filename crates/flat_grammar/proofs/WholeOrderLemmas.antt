@@ -16,18 +16,18 @@ child-listed (Leaf v ∷ items) zero c e = absurd (none-some _ e)
 child-listed (Child d ∷ items) (suc k) c e = contains-later d c _ (child-listed items k c e)
 child-listed (Leaf v ∷ items) (suc k) c e = child-listed items k c e
 
-module _ {V : Type 0} (t : Tree V) (seqs : List (List PlanItem)) where
-  -- a node at an occurrence is a child
-  pub child_at-child : (n k c : ℕ) → child_at t n k ≡ Some c → Contains (children t n) c
-  child_at-child n zero c e = absurd (none-some _ e)
-  child_at-child n (suc k) c e = child-listed (items_of t n) k c e
+-- a node at an occurrence is a child
+pub child_at-child : {V : Type 0} (t : Tree V) (n k c : ℕ) → child_at t n k ≡ Some c → Contains (children t n) c
+child_at-child t n zero c e = absurd (none-some _ e)
+child_at-child t n (suc k) c e = child-listed (items_of t n) k c e
 
+module _ {V : Type 0} (t : Tree V) (seqs : List (List PlanItem)) where
   abbrev step : (ℕ → ℕ → List Instance) → ℕ → ℕ → List Instance
   step below n v = flat_map (item_order t seqs below n) (segment (v - 1) (sequence_at t seqs n))
 
   visit-same : (n : ℕ) (f g : ℕ → ℕ → List Instance) → ((c : ℕ) → Contains (children t n) c → f c ≡ g c) → (k v : ℕ) (o : Option ℕ) → child_at t n k ≡ o → visit_order t seqs f o v ≡ visit_order t seqs g o v
   visit-same n f g same k v None e = refl
-  visit-same n f g same k v (Some c) e = ap (λ h. h v) (same c (child_at-child n k c e))
+  visit-same n f g same k v (Some c) e = ap (λ h. h v) (same c (child_at-child t n k c e))
 
   items-same : (n : ℕ) (f g : ℕ → ℕ → List Instance) → ((c : ℕ) → Contains (children t n) c → f c ≡ g c) → (items : List PlanItem) → flat_map (item_order t seqs f n) items ≡ flat_map (item_order t seqs g n) items
   items-same n f g same [] = refl

@@ -29,6 +29,10 @@ module _ (symbols : List FlatSymbol) (rules : List FlatRule) where
     induced : {x : SymId} → ¬ DP r u v → u.occ ≡ v.occ → symbol_at r u.occ ≡ Some x → IDS rules x u.attr v.attr → EDP r u v Induced
     partition : {x : SymId} → ¬ DP r u v → u.occ ≡ v.occ → symbol_at r u.occ ≡ Some x → ¬ IDS rules x u.attr v.attr → IsEarlier symbols rules x u.attr v.attr → EDP r u v Partition
 
+  -- an edge of the extended dependencies, whatever its label
+  abbrev pub IsExtended : FlatRule → Occ → Occ → Type 0
+  IsExtended r u v = DP r u v ⊎ ((u.occ ≡ v.occ) × (x : SymId) × (symbol_at r u.occ ≡ Some x) × DS x u.attr v.attr)
+
   module _ (r : FlatRule) where
     -- a walk along the steps to w
     abbrev pub IsWalk : List CycleStep → Occ → Type 0

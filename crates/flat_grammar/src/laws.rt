@@ -2,7 +2,8 @@
 ghost use Rattle.std.specs.Prelude.{◌≡◌, ◌<◌, ◌≤◌, ◌+◌, ◌-◌, ℕ, Bool, IsTrue, List, length, map, flat_map, sum_by, slice_get, Contains};
 ghost use Rattle.lido_base.specs.Environment.{Environment};
 ghost use Rattle.lido_base.specs.Operations.{operate, unless_bad, chosen, last};
-ghost use Rattle.lido_base.specs.Plain.{Plain};
+ghost use Rattle.lido_base.specs.Plain.{Plain, plain_tree};
+ghost use Rattle.lido_base.specs.declared.value.Value.{Value as Terminal};
 ghost use Rattle.lido_base.specs.Tree.{Tree, IsTree};
 ghost use Rattle.lido_base.specs.declared.operation.Op.{Op as Operation};
 ghost use Rattle.lido_base.specs.declared.ids.SymId.{SymId as Symbol};
@@ -17,12 +18,16 @@ ghost use Rattle.flat_grammar.specs.declared.plan.PlanItem.{PlanItem};
 ghost use Rattle.flat_grammar.specs.declared.plan.PlanItem.TheVariants.{Eval};
 ghost use Rattle.flat_grammar.specs.declared.plan.VisitClass.{VisitClass};
 ghost use Rattle.flat_grammar.specs.Rules.{reads, terminals_of};
-ghost use Rattle.flat_grammar.specs.Fitting.{cells, own_cells};
+ghost use Rattle.flat_grammar.specs.Fitting.{cells, own_cells, IsFitting};
+ghost use Rattle.flat_grammar.specs.FlatTrees.{IsFlatTree};
+ghost use Rattle.flat_grammar.specs.Instances.{IsGrown};
+ghost use Rattle.flat_grammar.specs.WellFormed.{IsWellFormed};
+ghost use Rattle.flat_grammar.specs.declared.flat.Shape.{Shape};
 ghost use Rattle.flat_grammar.specs.FlatAttribution.{value_of, fails};
 ghost use Rattle.flat_grammar.specs.Construction.{IsChosen, IsConstructed};
-ghost use Rattle.flat_grammar.specs.Dependencies.{IDS, IsClosed};
+ghost use Rattle.flat_grammar.specs.Dependencies.{IDS, IsClosed, AreInducedRows};
 ghost use Rattle.flat_grammar.specs.Partition.{kind_of_class, HasKind, IsPeeled, IsInClass, IsClass, AreVisits};
-ghost use Rattle.flat_grammar.specs.Cycles.{EDP};
+ghost use Rattle.flat_grammar.specs.Cycles.{EDP, IsExtended};
 ghost use Rattle.flat_grammar.specs.SoundPlan.{goals_of, IsSoundSequence, IsSound, IsUnsound};
 ghost use Rattle.flat_grammar.specs.WholeOrder.{Instance, segment, sequence_at, item_order, order};
 
@@ -73,6 +78,12 @@ pub fn symbol_has_one_row_of_visits()
 pub fn edge_has_one_label()
     ensures { (symbols : List FlatSymbol) (rules : List FlatRule) (r : FlatRule) (u v : Occurrence) (label other : Label)
         → EDP symbols rules r u v label → EDP symbols rules r u v other → label ≡ other }
+{}
+
+/// Each edge of the extended dependencies has a label, where there are rows of the induced dependencies.
+pub fn edge_has_a_label()
+    ensures { (symbols : List FlatSymbol) (rules : List FlatRule) (rows : List (List ℕ)) → AreInducedRows symbols rules rows
+        → (r : FlatRule) (u v : Occurrence) → IsExtended symbols rules r u v → (label : Label) × EDP symbols rules r u v label }
 {}
 
 /// A sound sequence evaluates each goal of its rule at exactly one place.
@@ -151,4 +162,14 @@ pub fn values_go_down_the_arguments()
     ensures order { (env : Environment) (t : Tree Plain) (node_of : List ℕ) (B : Instance → Plain) (origin n : ℕ) (args : List Expression)
         → (let values = map (value_of env t node_of B origin n) args in
         value_of env t node_of B origin n (expr.Order args) ≡ unless_bad values (last values)) }
+{}
+
+/// The flat tree of a written tree that fits the grammar is one of the grammar: it has at each node what the node's rule says.
+pub fn flat_trees_are_grown()
+    ensures plain { (symbols : List FlatSymbol) (rules : List FlatRule) (shapes : List Shape) (root : Symbol) (written flat : Tree Plain) (node_of : List ℕ)
+        → IsWellFormed symbols rules shapes root → IsFitting symbols rules shapes root written → IsFlatTree rules shapes written flat node_of
+        → IsGrown symbols rules flat root }
+    ensures stored { (symbols : List FlatSymbol) (rules : List FlatRule) (shapes : List Shape) (root : Symbol) (texts : List (List ℕ)) (written flat : Tree Terminal) (node_of : List ℕ)
+        → IsWellFormed symbols rules shapes root → IsFitting symbols rules shapes root (plain_tree texts written) → IsFlatTree rules shapes written flat node_of
+        → IsGrown symbols rules flat root }
 {}

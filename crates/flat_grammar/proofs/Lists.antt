@@ -1,6 +1,6 @@
 -- Lists by places and by elements.
 use Rattle.std.specs.Prelude.{Contains, AllPairs, slice_get}
-use Rattle.std.specs.List.{AllZip, slice_index_or}
+use Rattle.std.specs.List.{slice_index_or}
 use Rattle.std.proofs.Common.{◌≡◌, ℕ, zero, suc, ◌<◌, ◌⊎◌, inl, inr, List, [], ◌∷◌, map, take, Some, refl, arith, ap, sym, subst, ◌∙◌, unwrap_or, drop, ◌++◌, length-append, ◌+◌, length, add-one}
 use Rattle.std.proofs.Math.Seq.{take-suc}
 use Rattle.std.proofs.lemmas.List.Elements.{Contains-append_left, Contains-append_right, Contains-append_cases}
@@ -8,33 +8,10 @@ use Rattle.std.proofs.lemmas.Option.{none-some, slice_get-get_or}
 use Rattle.std.specs.List.Sorted.{IsStrictlyIncreasing}
 use Rattle.std.proofs.lemmas.List.{length-map}
 use Rattle.std.proofs.lemmas.List.Kept.{AllPairs-from_increasing}
+pub use Rattle.lido_base.proofs.Lists.{contains-nil, contains-cons, contains-here as contains-first, contains-later, contains-place as slice_get-contains, place-contains as contains-slice_get, AllZip-place as AllZip-at}
 
 pub held : {X : Type 0} {x y : X} → Some x ≡ Some y → x ≡ y
 held {X} {x} {y} e = ap (λ o. unwrap_or o x) e
-
-pub contains-nil : {X : Type 0} (x : X) → Contains [] x → ⊥
-contains-nil x h = absurd (omega (arith, h.1))
-
-pub contains-cons : {X : Type 0} (x y : X) (xs : List X) → Contains (x ∷ xs) y → (x ≡ y) ⊎ Contains xs y
-contains-cons x y xs (zero, h, e) = inl e
-contains-cons x y xs (suc k, h, e) = inr (k, (omega arith), e)
-
-pub contains-first : {X : Type 0} (x : X) (xs : List X) → Contains (x ∷ xs) x
-contains-first x xs = (zero, (omega arith), refl)
-
-pub contains-later : {X : Type 0} (x y : X) (xs : List X) → Contains xs y → Contains (x ∷ xs) y
-contains-later x y xs (k, h, e) = (suc k, (omega arith), e)
-
--- an element of the list stands at a place
-pub slice_get-contains : {X : Type 0} (xs : List X) (x : X) → Contains xs x → (k : ℕ) × (slice_get xs k ≡ Some x)
-slice_get-contains [] x h = absurd (contains-nil x h)
-slice_get-contains (y ∷ xs) x (zero, h, e) = (zero, ap Some e)
-slice_get-contains (y ∷ xs) x (suc k, h, e) = let p = slice_get-contains xs x (k, (omega arith), e) in (suc p.0, p.1)
-
-pub contains-slice_get : {X : Type 0} (xs : List X) (k : ℕ) (x : X) → slice_get xs k ≡ Some x → Contains xs x
-contains-slice_get [] k x e = absurd (none-some _ e)
-contains-slice_get (y ∷ xs) zero x e = (zero, (omega arith), held e)
-contains-slice_get (y ∷ xs) (suc k) x e = contains-later y x xs (contains-slice_get xs k x e)
 
 -- what stands at a place is among what stands before a later one
 pub contains-take : {X : Type 0} (xs : List X) (k n : ℕ) (x : X) → slice_get xs k ≡ Some x → k < n → Contains (take n xs) x
@@ -42,12 +19,6 @@ contains-take [] k n x e h = absurd (none-some _ e)
 contains-take (y ∷ xs) k zero x e h = absurd (omega (arith, h))
 contains-take (y ∷ xs) zero (suc n) x e h = (zero, (omega arith), held e)
 contains-take (y ∷ xs) (suc k) (suc n) x e h = contains-later y x (take n xs) (contains-take xs k n x e (omega (arith, h)))
-
-pub AllZip-at : {A B : Type 0} (R : A → B → Type 0) (xs : List A) (ys : List B) (i : ℕ) (x : A) (y : B) → AllZip R xs ys → slice_get xs i ≡ Some x → slice_get ys i ≡ Some y → R x y
-AllZip-at R [] ys i x y h e f = absurd (none-some _ e)
-AllZip-at R (a ∷ xs) [] i x y h e f = absurd (none-some _ f)
-AllZip-at R (a ∷ xs) (b ∷ ys) zero x y h e f = subst (λ u. R u y) (held e) (subst (λ v. R a v) (held f) h.0)
-AllZip-at R (a ∷ xs) (b ∷ ys) (suc i) x y h e f = AllZip-at R xs ys i x y h.1 e f
 
 pub slice_get-take : {X : Type 0} (xs : List X) (n i : ℕ) → i < n → slice_get (take n xs) i ≡ slice_get xs i
 slice_get-take xs zero i h = absurd (omega (arith, h))

@@ -1,6 +1,6 @@
 -- Induced dependencies are transitive, and no more is peeled behind a pair of classes without attributes.
 use Rattle.std.specs.Prelude.{◌*◌, Contains}
-use Rattle.std.proofs.Common.{◌≡◌, ℕ, zero, suc, ◌⊎◌, inl, inr, List, Some, refl, sym, ap, subst, ◌∙◌, arith}
+use Rattle.std.proofs.Common.{◌≡◌, ℕ, zero, suc, inl, inr, List, refl, sym, ap, subst, ◌∙◌, arith}
 use Rattle.lido_base.specs.declared.ids.SymId.{SymId}
 use Rattle.lido_base.specs.declared.ids.AttrId.{AttrId}
 use Rattle.lido_base.specs.declared.kinds.Kind.{Kind}

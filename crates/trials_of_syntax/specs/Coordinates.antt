@@ -53,5 +53,5 @@ abbrev pub tree : Tree Plain
 tree = placed 1 1 (root 0 (Child 1 ∷ Child 2 ∷ Child 3 ∷ [])) ∷ placed 3 7 (node 1 0 1 []) ∷ placed 4 9 (node 2 0 2 (Leaf (Int (pos 40)) ∷ [])) ∷ placed 5 2 (node 3 0 3 []) ∷ []
 
 -- in a computation of that holder at the node, whose rule is r, the expression has this value
-abbrev pub Gives : Holder → RuleItem → ℕ → Expr → Plain → Type 0
-Gives h r n e v = (sets : Sets spec) (A : Assignment) (number : ℕ) (tail : ℕ → Plain) → value spec sets env_of_messages tree A h r number n tail e ≡ v
+abbrev pub HasValue : Holder → RuleItem → ℕ → Expr → Plain → Type 0
+HasValue h r n e v = (sets : Sets spec) (A : Assignment) (number : ℕ) (tail : ℕ → Plain) → value spec sets env_of_messages tree A h r number n tail e ≡ v

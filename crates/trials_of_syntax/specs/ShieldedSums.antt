@@ -64,5 +64,5 @@ abbrev pub numbers : Assignment
 numbers = assigned ((1, Attribute n, Int (pos 1)) ∷ (3, Attribute n, Int (pos 20)) ∷ (5, Attribute n, Int (pos 300)) ∷ [])
 
 -- the CONSTITUENTS has this value at the node
-abbrev pub Gives : Cons → ℕ → Plain → Type 0
-Gives k at v = (sets : Sets spec) → constituents_at spec sets env tree numbers k at k.with ≡ v
+abbrev pub HasSum : Cons → ℕ → Plain → Type 0
+HasSum k at v = (sets : Sets spec) → constituents_at spec sets env tree numbers k at k.with ≡ v

@@ -15,11 +15,11 @@ ghost use Rattle.trials_of_syntax.specs.Writing.{env, pair};
 /// Below a block of 1 that holds blocks of 20 and 300 a shielded sum takes the first block alone, and one without a shield
 /// all three. A shield that is no source gives nothing.
 pub fn shielded_sums()
-    ensures shielded { sums.Gives sums.shielded 0 (Int (pos 1)) }
-    ensures unshielded { sums.Gives sums.unshielded 0 (Int (pos 321)) }
-    ensures inside { sums.Gives sums.unshielded 1 (Int (pos 320)) }
-    ensures empty { sums.Gives sums.unshielded 3 (Int (pos 0)) }
-    ensures stopped { sums.Gives sums.shielded_by_the_list 0 (Int (pos 1)) }
+    ensures shielded { sums.HasSum sums.shielded 0 (Int (pos 1)) }
+    ensures unshielded { sums.HasSum sums.unshielded 0 (Int (pos 321)) }
+    ensures inside { sums.HasSum sums.unshielded 1 (Int (pos 320)) }
+    ensures empty { sums.HasSum sums.unshielded 3 (Int (pos 0)) }
+    ensures stopped { sums.HasSum sums.shielded_by_the_list 0 (Int (pos 1)) }
 {}
 
 /// An INCLUDING begins strictly above its context: nested blocks have the depths 1, 2 and 3.

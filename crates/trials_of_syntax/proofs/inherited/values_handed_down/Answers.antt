@@ -61,21 +61,21 @@ module _ (sets : Sets spec) where
   computed_at A n v h r c at none e = (r, (λ c. Void), at, (λ chain h. absurd (none h.0 h.1)), e)
 
   -- at its context the computation has a value that the node's attribute keeps
-  abbrev IsValue : ℕ → ℕ → Holder → Comp → Type 0
-  IsValue m context h c = (v : Plain) × IsComputed spec sets env tree handed context h c v × (handed m (Attribute i) ≡ Some (kept type.Int v))
+  abbrev IsKept : ℕ → ℕ → Holder → Comp → Type 0
+  IsKept m context h c = (v : Plain) × IsComputed spec sets env tree handed context h c v × (handed m (Attribute i) ≡ Some (kept type.Int v))
 
   quotient_value : Bad (zero_divisor 2 4) ≡ value_by spec sets env tree handed (λ c. Void) 2 by_rule right_rule quotient
   unfolding operate
   quotient_value = simp (value-Call spec sets env tree handed by_rule right_rule 4 2 (λ c. Void)) refl
 
-  values : (m a context : ℕ) (h : Holder) (c : Comp) → nodes.Computes spec tree m a context h c → IsValue m context h c
-  values m a context h c computes = computed IsValue
+  values : (m a context : ℕ) (h : Holder) (c : Comp) → nodes.Computes spec tree m a context h c → IsKept m context h c
+  values m a context h c computes = computed IsKept
       (Int (pos 3), computed_at handed 0 (Int (pos 3)) by_rule top_rule three (0, refl, refl) no_tail_in_three refl, refl)
       (Int (pos 5), computed_at handed 2 (Int (pos 5)) by_symbol right_rule five (2, refl, refl) no_tail_in_five refl, refl)
       (Bad (zero_divisor 2 4), computed_at handed 2 (Bad (zero_divisor 2 4)) by_rule right_rule quotient (2, refl, refl) no_tail_in_quotient quotient_value, refl)
       m a c context h computes
 
-  kept_as : (m a context : ℕ) (ty : ValueType) (h : Holder) (c : Comp) → a ≡ i → ty ≡ type.Int → IsValue m context h c
+  kept_as : (m a context : ℕ) (ty : ValueType) (h : Holder) (c : Comp) → a ≡ i → ty ≡ type.Int → IsKept m context h c
       → (v : Plain) × IsComputed spec sets env tree handed context h c v × (handed m (Attribute a) ≡ Some (kept ty v))
   kept_as m a context ty h c ea et is = subst (λ a. (v : Plain) × IsComputed spec sets env tree handed context h c v × (handed m (Attribute a) ≡ Some (kept ty v))) (sym ea)
       (subst (λ ty. (v : Plain) × IsComputed spec sets env tree handed context h c v × (handed m (Attribute i) ≡ Some (kept ty v))) (sym et) is)

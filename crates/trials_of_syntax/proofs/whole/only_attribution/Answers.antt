@@ -149,17 +149,17 @@ module _ (sets : Sets spec) where
   only_value B m r comp x y at h computed = values.only_value spec sets env tree B m r at comp.number comp.value x y h computed
 
   -- ---- the attribution
-  abbrev IsValue : ℕ → ℕ → ℕ → Comp → Type 0
-  IsValue m a context comp = (ty : ValueType) → HasType spec X a ty → (x : Plain) × IsComputed spec sets env tree A context by_rule comp x × (A m (Attribute a) ≡ Some (kept ty x))
+  abbrev IsKept : ℕ → ℕ → ℕ → Comp → Type 0
+  IsKept m a context comp = (ty : ValueType) → HasType spec X a ty → (x : Plain) × IsComputed spec sets env tree A context by_rule comp x × (A m (Attribute a) ≡ Some (kept ty x))
 
-  as_int : (m a context : ℕ) (comp : Comp) (x : Plain) → (a ≡ v) ⊎ (a ≡ i) → IsComputed spec sets env tree A context by_rule comp x → A m (Attribute a) ≡ Some x → IsValue m a context comp
+  as_int : (m a context : ℕ) (comp : Comp) (x : Plain) → (a ≡ v) ⊎ (a ≡ i) → IsComputed spec sets env tree A context by_rule comp x → A m (Attribute a) ≡ Some x → IsKept m a context comp
   as_int m a context comp x e h g ty t = (x, h, subst (λ ty. A m (Attribute a) ≡ Some (kept ty x)) (sym (is_int a ty e t)) g)
 
-  as_void : (m context : ℕ) (comp : Comp) (x : Plain) → IsComputed spec sets env tree A context by_rule comp x → A m (Attribute w) ≡ Some (kept type.Void x) → IsValue m w context comp
+  as_void : (m context : ℕ) (comp : Comp) (x : Plain) → IsComputed spec sets env tree A context by_rule comp x → A m (Attribute w) ≡ Some (kept type.Void x) → IsKept m w context comp
   as_void m context comp x h g ty t = (x, h, subst (λ ty. A m (Attribute w) ≡ Some (kept ty x)) (sym (is_void w ty refl t)) g)
 
-  attribute_values : (m a context : ℕ) (h : Holder) (comp : Comp) → Computes spec tree m a context h comp → (h ≡ by_rule) × IsValue m a context comp
-  attribute_values = computed IsValue
+  attribute_values : (m a context : ℕ) (h : Holder) (comp : Comp) → Computes spec tree m a context h comp → (h ≡ by_rule) × IsKept m a context comp
+  attribute_values = computed IsKept
       (as_int 1 v 1 front (Int (pos 1)) (inl refl) (computed_as A 1 x_rule front (Int (pos 1)) at_1 (λ tail. refl)) refl)
       (as_int 2 v 2 front (Int (pos 3)) (inl refl) (computed_as A 2 x_rule front (Int (pos 3)) at_2 (λ tail. refl)) refl)
       (as_void 1 1 void (Int (pos 1)) (computed_as A 1 x_rule void (Int (pos 1)) at_1 (λ tail. refl)) refl)

@@ -86,8 +86,8 @@ module _ (sets : Sets spec) where
       found (Behind c) (h, k) = cc
 
   -- at this node the computation has its value, and the attribute keeps it
-  abbrev IsValue : ℕ → ℕ → ValueType → ℕ → Holder → Comp → Type 0
-  IsValue m a ty context h c = (v : Plain) × IsComputed spec sets env tree numbers context h c v × (numbers m (Attribute a) ≡ Some (kept ty v))
+  abbrev IsKept : ℕ → ℕ → ValueType → ℕ → Holder → Comp → Type 0
+  IsKept m a ty context h c = (v : Plain) × IsComputed spec sets env tree numbers context h c v × (numbers m (Attribute a) ≡ Some (kept ty v))
 
   kept_as : (m a : ℕ) (ty : ValueType) (v : Plain) → a ≡ n → ty ≡ type.Int → numbers m (Attribute n) ≡ Some (kept type.Int v) → numbers m (Attribute a) ≡ Some (kept ty v)
   kept_as m a ty v ea et e = subst (λ a. numbers m (Attribute a) ≡ Some (kept ty v)) (sym ea) (subst (λ ty. numbers m (Attribute n) ≡ Some (kept ty v)) (sym et) e)
@@ -95,13 +95,13 @@ module _ (sets : Sets spec) where
   computed_at : (m : ℕ) (v : Plain) → IsAt spec tree m item_rule → v ≡ value_by spec sets env tree numbers (λ c. Void) m by_rule item_rule number → IsComputed spec sets env tree numbers m by_rule number v
   computed_at m v at e = (item_rule, (λ c. Void), at, (λ c h. absurd (no_tail c h.0 h.1)), e)
 
-  values : (m a context : ℕ) (ty : ValueType) (h : Holder) (c : Comp) → a ≡ n → ty ≡ type.Int → Computes spec tree m a context h c → IsValue m a ty context h c
+  values : (m a context : ℕ) (ty : ValueType) (h : Holder) (c : Comp) → a ≡ n → ty ≡ type.Int → Computes spec tree m a context h c → IsKept m a ty context h c
   values m a _ ty h c ea et (nodes.synthesized (r, at, force)) =
       let own : (h ≡ by_rule) × InRule spec r 0 (Synthesized a) c = only_rules spec.rules spec.attrs spec.terms spec.chains r 0 (left_of r) (Synthesized a) h c force in
-      subst (λ h. IsValue m a ty m h c) (sym own.0) (by_node (λ m r. InRule spec r 0 (Synthesized a) c → IsValue m a ty m by_rule c)
+      subst (λ h. IsKept m a ty m h c) (sym own.0) (by_node (λ m r. InRule spec r 0 (Synthesized a) c → IsKept m a ty m by_rule c)
       (λ h. absurd (top_computes_none a c h))
-      (λ h. every (λ (c : Comp). IsValue 1 a ty 1 by_rule c) item_rule.body ((Int (pos 5), computed_at 1 (Int (pos 5)) (1, refl, refl) refl, kept_as 1 a ty (Int (pos 5)) ea et refl), tt) c h.0)
-      (λ h. every (λ (c : Comp). IsValue 2 a ty 2 by_rule c) item_rule.body ((Int (pos 6), computed_at 2 (Int (pos 6)) (1, refl, refl) refl, kept_as 2 a ty (Int (pos 6)) ea et refl), tt) c h.0)
+      (λ h. every (λ (c : Comp). IsKept 1 a ty 1 by_rule c) item_rule.body ((Int (pos 5), computed_at 1 (Int (pos 5)) (1, refl, refl) refl, kept_as 1 a ty (Int (pos 5)) ea et refl), tt) c h.0)
+      (λ h. every (λ (c : Comp). IsKept 2 a ty 2 by_rule c) item_rule.body ((Int (pos 6), computed_at 2 (Int (pos 6)) (1, refl, refl) refl, kept_as 2 a ty (Int (pos 6)) ea et refl), tt) c h.0)
       m r at own.1)
   values m a _ ty _ c ea et (nodes.inherited_of_rule p k s r child at hs force) =
       absurd (no_inherited m a p k r c at child (only_rules spec.rules spec.attrs spec.terms spec.chains r k s (Inherited a) by_rule c force).1)

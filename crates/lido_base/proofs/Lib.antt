@@ -1,5 +1,6 @@
 pub mod Lists
 pub mod Pieces
+pub mod PathLemmas
 pub mod PlainLemmas
 pub mod TextsLemmas
 pub mod TreeLemmas

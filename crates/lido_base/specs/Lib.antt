@@ -9,6 +9,7 @@ pub mod Plain
 pub mod Operations
 pub mod Types
 pub mod Environment
+pub mod Subtrees
 pub mod Tree
 pub mod Equations
 pub mod Reach

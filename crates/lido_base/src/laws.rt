@@ -5,9 +5,10 @@ ghost use Rattle.lido_base.specs.Equations.{IsOrdered, HasOneSolution};
 ghost use Rattle.lido_base.specs.Operations.{operate};
 ghost use Rattle.lido_base.specs.Origins.{IsAtMost};
 ghost use Rattle.lido_base.specs.Reach.{Reaches, IsClosed, IsWithin, IsDecided, IsPath, IsLeastPath, IsLeastCycle};
+ghost use Rattle.lido_base.specs.Subtrees.{IsInSubtree};
 ghost use Rattle.lido_base.specs.Texts.{IsDistinctTexts, with_text};
 ghost use Rattle.lido_base.specs.Plain.{Plain, plain_item, plain_tree};
-ghost use Rattle.lido_base.specs.Tree.{Tree, IsTree, AsksBelow, ancestors, children, coordinate, from_children, items_of, parent_of, place_of, rule_at};
+ghost use Rattle.lido_base.specs.Tree.{Tree, IsTree, Child, AsksBelow, ancestors, children, coordinate, from_children, item_at, items_of, parent_of, place_of, rule_at};
 ghost use Rattle.lido_base.specs.declared.kinds.CoordPart.{CoordPart};
 ghost use Rattle.lido_base.specs.Types.{Takes, type_of, IsOfType};
 ghost use Rattle.lido_base.specs.declared.operation.Op.{Op};
@@ -70,6 +71,19 @@ pub fn ancestors_step_by_step<V>()
     ensures root { (t : Tree V) (n : ℕ) → parent_of t n ≡ None → ancestors t n ≡ [] }
     ensures child { (t : Tree V) (n p : ℕ) → IsTree t → parent_of t n ≡ Some p
         → ancestors t n ≡ p ∷ ancestors t p }
+{}
+
+/// In preorder the nodes of a subtree stand together, behind its root; a child stands at its place among its parent's items.
+pub fn subtrees_stand_together<V>()
+    ensures child { (t : Tree V) (p place c : ℕ) → IsTree t → item_at t p place ≡ Some (Child c)
+        → (parent_of t c ≡ Some p) × (place_of t c ≡ place) × (p < c) × (c < length t) }
+    ensures item { (t : Tree V) (p c : ℕ) → IsTree t → parent_of t c ≡ Some p → item_at t p (place_of t c) ≡ Some (Child c) }
+    ensures parent { (t : Tree V) (n : ℕ) → IsTree t → n + 1 < length t → (p : ℕ) × (parent_of t (n + 1) ≡ Some p) × (p < n + 1) }
+    ensures in_order { (t : Tree V) (p i j c d : ℕ) → IsTree t → item_at t p i ≡ Some (Child c) → item_at t p j ≡ Some (Child d) → i < j → c < d }
+    ensures whole { (t : Tree V) (n : ℕ) → IsTree t → n < length t → IsInSubtree t 0 n }
+    ensures behind { (t : Tree V) (m n : ℕ) → IsTree t → IsInSubtree t m n → m ≤ n }
+    ensures inner { (t : Tree V) (m q n : ℕ) → IsTree t → IsInSubtree t m q → IsInSubtree t q n → IsInSubtree t m n }
+    ensures together { (t : Tree V) (m n y : ℕ) → IsTree t → IsInSubtree t m n → m ≤ y → y ≤ n → IsInSubtree t m y }
 {}
 
 /// Where its terminals are made plain, a tree keeps all else: rules, parents, places, coordinates, children and ancestors. It is

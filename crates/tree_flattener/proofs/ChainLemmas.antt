@@ -12,7 +12,7 @@ use Rattle.tree_store.specs.Growth.{IsOpen}
 use Rattle.tree_store.proofs.GrowthLemmas.{get_last}
 use Rattle.tree_store.proofs.OpenLemmas.{open_upwards}
 use Rattle.tree_flattener.specs.Drafts.{Table, Grows, IsCellOf, IsChain}
-use Rattle.tree_flattener.proofs.PathLemmas.{child_parent, with_parent_inside}
+use Rattle.lido_base.proofs.PathLemmas.{child_parent, with_parent_inside}
 use Rattle.tree_flattener.proofs.GrowLemmas.{cell_grows}
 
 module _ (symbols : List FlatSymbol) (rules : List FlatRule) (shapes : List Shape) (W F : Table) (node_of : List ℕ) (cell : SymId) (w tail : ℕ) where

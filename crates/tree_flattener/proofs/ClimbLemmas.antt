@@ -3,7 +3,7 @@ use Rattle.std.specs.Prelude.{Contains}
 use Rattle.std.proofs.Common.{◌≡◌, ℕ, ◌⊎◌, inl, inr, Some, sym}
 use Rattle.lido_base.specs.Tree.{IsTree, parent_of, ancestors}
 use Rattle.tree_flattener.specs.Drafts.{Table, IsOnPath}
-use Rattle.tree_flattener.proofs.PathLemmas.{above_self}
+use Rattle.lido_base.proofs.PathLemmas.{above_self}
 
 pub further_up : (W : Table) (m to : ℕ) → IsOnPath W m to → (m ≡ to → ⊥) → Contains (ancestors W m) to
 further_up W m to (inl same) other = absurd (other (sym same))

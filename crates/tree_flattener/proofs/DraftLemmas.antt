@@ -17,7 +17,7 @@ use Rattle.flat_grammar.specs.FlatTrees.{IsNodeOf, IsFlatTree}
 use Rattle.tree_store.proofs.GrowthLemmas.{get_before, get_last}
 use Rattle.tree_store.proofs.OpenLemmas.{open_upwards}
 use Rattle.tree_flattener.specs.Drafts.{Table, IsPlaced, IsOnPath, Suits, IsUpToAs, IsWholeAs, IsUpTo, IsWhole, IsNumbered, IsDraft, IsAttached, IsClosed}
-use Rattle.tree_flattener.proofs.PathLemmas.{above_self, parent_above, above_parent, above_before, path_up, before_up, behind_up, child_parent, on_path_before, place_inside}
+use Rattle.lido_base.proofs.PathLemmas.{above_self, parent_above, above_parent, above_before, path_up, before_up, behind_up, child_parent, on_path_before, place_inside}
 use Rattle.tree_flattener.proofs.GrowLemmas.{stands_grows, stands_before, up_to_grows, whole_grows, some_same}
 use Rattle.tree_flattener.proofs.ItemLemmas.{there}
 

@@ -13,7 +13,7 @@ use Rattle.tree_store.specs.Growth.{IsTerminal}
 use Rattle.tree_store.proofs.GrowthLemmas.{items_of-with_item}
 use Rattle.tree_flattener.proofs.GrowLemmas.{rule_at-with_item}
 use Rattle.tree_flattener.specs.Drafts.{Table}
-use Rattle.tree_flattener.proofs.PathLemmas.{ascending, own_item}
+use Rattle.lido_base.proofs.PathLemmas.{ascending, own_item}
 
 pub there : {X : Type 0} (xs : List X) (k : ℕ) → k < length xs → (x : X) × (slice_get xs k ≡ Some x)
 there [] k h = absurd (omega arith)

@@ -11,7 +11,6 @@ pub mod OnePlainLemmas
 pub mod OneRoleLemmas
 pub mod OneRuleLemmas
 pub mod OneTreeLemmas
-pub mod PathLemmas
 pub mod PlacedLemmas
 pub mod ShapeLemmas
 pub mod StepLemmas

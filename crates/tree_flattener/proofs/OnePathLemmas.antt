@@ -5,39 +5,13 @@ use Rattle.std.proofs.Math.Nat.{eq-or-lt_of_le}
 use Rattle.std.proofs.lemmas.List.Kept.{AllPairs-from_increasing}
 use Rattle.lido_base.specs.Tree.{Tree, Item, Child, Leaf, IsTree, child_number, rule_at, parent_of, place_of, items_of, children, ancestors, contains, continues, is_just}
 use Rattle.lido_base.proofs.TreeLemmas.{parent_before, ancestors-root, ancestors-child, contains-cons, contains-test, test-contains, both, either, is_just-some}
-use Rattle.tree_store.proofs.GrowthLemmas.{Contains-child}
-use Rattle.tree_store.proofs.ReadingLemmas.{child_of_parent, parent_there}
-
--- each number is below all later ones
-abbrev Rises : List ℕ → Type 0
-Rises [] = Unit {0}
-Rises (x ∷ xs) = ((y : ℕ) → Contains xs y → x < y) × Rises xs
-
-rises_from : (xs : List ℕ) → AllPairs (λ x y. x < y) xs → Rises xs
-rises_from [] pairs = tt
-rises_from (x ∷ xs) pairs = (
-  λ y m. let h = pairs 0 (suc m.0) y (omega arith) (let in_range = m.1 in omega arith) in
-      subst (λ z. x < z) m.2 h,
-  rises_from xs (λ i j d a b. pairs (suc i) (suc j) d (omega arith) (omega arith)),
-)
+use Rattle.lido_base.proofs.PathLemmas.{child_of_parent, parent_there, with_parent_inside}
 
 pub same_child : {V : Type 0} {o : Option (Item V)} (c d : ℕ) → o ≡ Some (Child c) → o ≡ Some (Child d) → c ≡ d
 same_child c d e f = cc
 
 pub same_held : {X : Type 0} {o : Option X} (x y : X) → o ≡ Some x → o ≡ Some y → x ≡ y
 same_held x y e f = cc
-
-rises_items : {V : Type 0} (items : List (Item V)) → Rises (filter_map child_number items) → (i j c d : ℕ) → slice_get items i ≡ Some (Child c)
-    → slice_get items j ≡ Some (Child d) → i < j → c < d
-rises_items [] r i j c d e f h = cc
-rises_items (Leaf v ∷ items) r zero j c d e f h = cc
-rises_items (Leaf v ∷ items) r (suc i) zero c d e f h = absurd (omega arith)
-rises_items (Leaf v ∷ items) r (suc i) (suc j) c d e f h = rises_items items r i j c d e f (omega arith)
-rises_items (Child x ∷ items) r zero zero c d e f h = absurd (omega arith)
-rises_items (Child x ∷ items) r zero (suc j) c d e f h =
-    let below = r.0 d (Contains-child items j d f) in let same : x ≡ c = same_child x c refl e in omega (arith, below, same)
-rises_items (Child x ∷ items) r (suc i) zero c d e f h = absurd (omega arith)
-rises_items (Child x ∷ items) r (suc i) (suc j) c d e f h = rises_items items r.1 i j c d e f (omega arith)
 
 -- a node of the table has a rule, and what has a rule is one
 module _ {V : Type 0} where
@@ -50,11 +24,6 @@ module _ {V : Type 0} where
   rule_inside [] n i e = cc
   rule_inside (node ∷ t) zero i e = omega arith
   rule_inside (node ∷ t) (suc n) i e = let h = rule_inside t n i e in omega arith
-
-  pub parent_inside : (t : Tree V) (n p : ℕ) → parent_of t n ≡ Some p → n < length t
-  parent_inside [] n p e = cc
-  parent_inside (node ∷ t) zero p e = omega arith
-  parent_inside (node ∷ t) (suc n) p e = let h = parent_inside t n p e in omega arith
 
 module _ {V : Type 0} (t : Tree V) (tree : IsTree t) where
   -- p is the node x or stands above it
@@ -85,7 +54,7 @@ module _ {V : Type 0} (t : Tree V) (tree : IsTree t) where
 
   -- the parent of the node behind y is y or stands above it
   preorder : (y q : ℕ) → parent_of t (suc y) ≡ Some q → IsAbove q y
-  preorder y q e = let inside = parent_inside t (suc y) q e in
+  preorder y q e = let inside = with_parent_inside t (suc y) q e in
       let h = subst (λ o. IsTrue (continues t y o)) (ap (parent_of t) (add-one y) ∙ e) (tree.in_preorder y (omega arith)) in
       go (either (nat_eq q y) (contains q (ancestors t y)) h)
     where
@@ -113,20 +82,9 @@ module _ {V : Type 0} (t : Tree V) (tree : IsTree t) where
       go (here same) = absurd (omega arith)
       go (up r g b) = let l = above_low p r b in let same : r ≡ q = same_held r q g f in omega arith
 
-  -- children stand in order
-  pub ascending : (n i j c d : ℕ) → slice_get (items_of t n) i ≡ Some (Child c) → slice_get (items_of t n) j ≡ Some (Child d) → i < j → c < d
-  ascending n i j c d e f h = rises_items (items_of t n)
-      (rises_from (children t n) (AllPairs-from_increasing (children t n) (tree.children_ascend n))) i j c d e f h
-
-  -- a child's parent, and that it is a node
-  pub child_parent : (p k c : ℕ) → slice_get (items_of t p) k ≡ Some (Child c) → parent_of t c ≡ Some p
-  child_parent p k c e = is_just-some p (parent_of t c)
-      (both (nat_lt c (length t)) (is_just p (parent_of t c)) (sym (tree.items_agree p c)
-      ∙ test-contains c (children t p) (Contains-child (items_of t p) k c e))).1
-
   -- a node stands among its parent's items
   pub own_item : (c p : ℕ) → parent_of t c ≡ Some p → (j : ℕ) × (slice_get (items_of t p) j ≡ Some (Child c)) × (place_of t c ≡ suc j)
-  own_item c p e = let at = child_of_parent t tree c p (parent_inside t c p e) e in (at.0, at.1, tree.places_agree p at.0 c at.1)
+  own_item c p e = let at = child_of_parent t tree c p (with_parent_inside t c p e) e in (at.0, at.1, tree.places_agree p at.0 c at.1)
 
   -- and at its place
   pub item_at_place : (c p j : ℕ) → parent_of t c ≡ Some p → place_of t c ≡ suc j → slice_get (items_of t p) j ≡ Some (Child c)

@@ -15,7 +15,8 @@ use Rattle.flat_grammar.specs.WellFormed.{cell_of, IsListShape, IsWellFormed}
 use Rattle.flat_grammar.specs.FlatTrees.{IsFlatTree}
 use Rattle.flat_grammar.proofs.Lists.{same-by-places}
 use Rattle.tree_flattener.proofs.ShapeLemmas.{list_shape}
-use Rattle.tree_flattener.proofs.OnePathLemmas.{same_child, same_held, parent_inside, last_parent, ascending, child_parent, own_item, item_at_place, some_parent}
+use Rattle.tree_flattener.proofs.OnePathLemmas.{same_child, same_held, last_parent, own_item, item_at_place, some_parent}
+use Rattle.lido_base.proofs.PathLemmas.{with_parent_inside, ascending, child_parent}
 use Rattle.tree_flattener.proofs.OneRoleLemmas.{IsAlike, Has, written, alike_numbers, alike_inside, alike_rule, alike_all, alike_back}
 
 there : {X : Type 0} (xs : List X) (k : ℕ) → k < length xs → (x : X) × (slice_get xs k ≡ Some x)
@@ -60,7 +61,7 @@ module _ (symbols : List FlatSymbol) (rules : List FlatRule) (shapes : List Shap
     -- a child that both have has one number
     old_child : (p j c d : ℕ) → IsSame symbols rules shapes W F G ns ms d → slice_get (items_of F p) j ≡ Some (Child c)
         → slice_get (items_of G p) j ≡ Some (Child d) → c ≡ d
-    old_child p j c d same e h = let up = child_parent G g.tree p j d h in let place = g.tree.places_agree p j d h in
+    old_child p j c d same e h = let up = child_parent G g.tree p (suc j) d h in let place = g.tree.places_agree p j d h in
         same_child c d e (item_at_place F f.tree d p j (same.parent ∙ up) (same.place ∙ place))
 
     pub next_met : (k : ℕ) → AreSame symbols rules shapes W F G ns ms k → suc k < length F
@@ -89,7 +90,7 @@ module _ (symbols : List FlatSymbol) (rules : List FlatRule) (shapes : List Shap
       where
         go : (i < j) ⊎ (j ≤ i) → j ≤ i
         go (inr h) = h
-        go (inl h) = let l = ascending F f.tree p i j c (suc k) item met.item h in absurd (omega arith)
+        go (inl h) = let l = ascending F f.tree p (suc i) (suc j) c (suc k) item met.item (omega arith) in absurd (omega arith)
 
   module _ (F G : Tree V) (ns ms : List ℕ) (f : IsFlatTree rules shapes W F ns) (g : IsFlatTree rules shapes W G ms) where
     turned : (n : ℕ) → IsSame symbols rules shapes W F G ns ms n → IsSame symbols rules shapes W G F ms ns n
@@ -99,7 +100,7 @@ module _ (symbols : List FlatSymbol) (rules : List FlatRule) (shapes : List Shap
     joined : (k p j d q i c : ℕ) → IsMet symbols rules shapes W F G ns ms k p j d → IsMet symbols rules shapes W G F ms ns k q i c
         → IsSame symbols rules shapes W F G ns ms (suc k)
     joined k p j d q i c met back =
-        let up_d = child_parent G g.tree p j d met.other in let up_c = child_parent F f.tree q i c back.other in
+        let up_d = child_parent G g.tree p (suc j) d met.other in let up_c = child_parent F f.tree q (suc i) c back.other in
         let one : p ≤ q = last_parent G g.tree p q k d up_d met.low met.behind back.parent in
         let two : q ≤ p = last_parent F f.tree q p k c up_c back.low back.behind met.parent in
         let same : q ≡ p = omega arith in
@@ -150,7 +151,7 @@ module _ (symbols : List FlatSymbol) (rules : List FlatRule) (shapes : List Shap
         go (Leaf v) e (Child d, at, a) = absurd a
         go (Child c) e (Leaf u, at, a) = absurd a
         go (Child c) e (Child d, at, a) =
-            let up = child_parent F f.tree n k c e in let place = f.tree.places_agree n k c e in let same = same_at c (parent_inside F c n up) in
+            let up = child_parent F f.tree n (suc k) c e in let place = f.tree.places_agree n k c e in let same = same_at c (with_parent_inside F c n up) in
             item_at_place G g.tree c n k (sym same.parent ∙ up) (sym same.place ∙ place)
 
     pub node_same : (n : ℕ) (x y : Node V) → slice_get F n ≡ Some x → slice_get G n ≡ Some y → IsSame symbols rules shapes W F G ns ms n

@@ -18,7 +18,7 @@ use Rattle.tree_store.specs.Growth.{IsOpen}
 use Rattle.tree_store.proofs.GrowthLemmas.{get_before, get_last, open_inside}
 use Rattle.tree_flattener.specs.Forms.{IsElementRule, IsEndRule}
 use Rattle.tree_flattener.specs.Drafts.{Table, IsGrown, IsOnPath, Grows, Fills, Suits, IsCellOf, IsChain, IsUpToAs, IsWholeAs, IsUpTo, IsWhole, IsDraft, IsAttached, IsClosed}
-use Rattle.tree_flattener.proofs.PathLemmas.{with_parent_inside, on_path_before, child_parent, above_before}
+use Rattle.lido_base.proofs.PathLemmas.{with_parent_inside, on_path_before, child_parent, above_before}
 use Rattle.tree_flattener.proofs.GrowLemmas.{Adds, adds_grows, grows_on, fills_grow, items_grow, some_same}
 use Rattle.tree_flattener.proofs.ChainLemmas.{chain_last, chain_open, chain_more, chain_end}
 use Rattle.tree_flattener.proofs.ItemLemmas.{there, take_next, take_all, take_short, items_append, items_length, rest_empty, next_item, next_element}

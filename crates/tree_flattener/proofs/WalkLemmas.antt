@@ -18,7 +18,7 @@ use Rattle.tree_flattener.specs.declared.draft.Draft.{Draft}
 use Rattle.tree_flattener.specs.declared.draft.Spot.{Spot}
 use Rattle.tree_flattener.specs.Forms.{IsEndRule, AreElementRules}
 use Rattle.tree_flattener.specs.Drafts.{Table, IsGrown, IsPlaced, IsOnPath, Fills, Suits, IsNumbered, IsDraft, IsAttached, IsClosed, IsWalk, HasForm, most_nodes}
-use Rattle.tree_flattener.proofs.PathLemmas.{with_parent_inside, own_item, place_inside, preorder_parent, no_more, child_parent}
+use Rattle.lido_base.proofs.PathLemmas.{with_parent_inside, own_item, place_inside, preorder_parent, no_more, child_parent}
 use Rattle.tree_flattener.proofs.GrowLemmas.{Adds, adds, some_same}
 use Rattle.tree_flattener.proofs.ItemLemmas.{there, take_all, take_short, items_length, rest_terminals, terminals_between, next_behind}
 use Rattle.tree_flattener.proofs.DraftLemmas.{attached_draft, closed_numbered, closed_draft, is_flat_tree}

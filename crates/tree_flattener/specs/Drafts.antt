@@ -3,6 +3,7 @@ use Rattle.std.specs.Prelude.{◌≡◌, ℕ, suc, ◌+◌, ◌*◌, ◌<◌, �
 use Rattle.lido_base.specs.declared.ids.SymId.{SymId}
 use Rattle.lido_base.specs.declared.value.Value.{Value}
 use Rattle.lido_base.specs.Tree.{Tree, Item, Child, IsTree, rule_at, parent_of, place_of, line_of, column_of, items_of, item_at, children, child_number, ancestors, with_node}
+use Rattle.lido_base.specs.Subtrees.{IsInSubtree}
 use Rattle.flat_grammar.specs.declared.flat.FlatSymbol.{FlatSymbol}
 use Rattle.flat_grammar.specs.declared.flat.FlatRule.{FlatRule}
 use Rattle.flat_grammar.specs.declared.flat.Shape.{Shape}
@@ -33,7 +34,7 @@ pub record IsPlaced (W F : Table) (node_of : List ℕ) : Type 0 where
 
 -- q is the node or one of its ancestors
 abbrev pub IsOnPath : Table → ℕ → ℕ → Type 0
-IsOnPath W n q = (q ≡ n) ⊎ Contains (ancestors W n) q
+IsOnPath W n q = IsInSubtree W q n
 
 -- more items were added to flat nodes of written node m alone, and more flat nodes
 pub record Grows (m : ℕ) (F : Table) (node_of : List ℕ) (G : Table) (more : List ℕ) : Type 0 where

@@ -19,7 +19,7 @@ use Rattle.lido_base.proofs.TextsLemmas.{same_place}
 use Rattle.lido_base.proofs.TreeLemmas.{both, test-contains, is_just-some}
 use Rattle.tree_store.specs.declared.fault.TreeFault.{TreeFault}
 use Rattle.tree_store.specs.declared.fault.TreeFault.TheVariants as fault
-use Rattle.tree_store.proofs.GrowthLemmas.{Contains-child}
+use Rattle.lido_base.proofs.PathLemmas.{Contains-child}
 use Rattle.flat_grammar.specs.declared.flat.FlatSymbol.{FlatSymbol}
 use Rattle.flat_grammar.specs.declared.flat.FlatRule.{FlatRule}
 use Rattle.flat_grammar.specs.declared.flat.Shape.{Shape}

@@ -12,6 +12,7 @@ use Rattle.std.proofs.Math.Nat.{eq-or-lt_of_le}
 use Rattle.std.proofs.Math.Bool.{or-false, or-true}
 use Rattle.lido_base.specs.Tree.{Tree, Node, Item, Child, Leaf, IsTree, child_number, parent_of, place_of, items_of, item_at, children, ancestors, contains, continues, is_just, and_above, unroll, places, with_item, with_node}
 use Rattle.lido_base.proofs.TreeLemmas.{children_behind, parent_before, ancestors-root, ancestors-child, test-contains, contains-cons}
+use Rattle.lido_base.proofs.PathLemmas.{Contains-child}
 use Rattle.tree_store.specs.Growth.{IsOpen, IsNext, IsEmptyOrTree}
 
 -- an element behind the others changes nothing at these
@@ -28,13 +29,6 @@ get_last (y ∷ xs) x (suc n) h = get_last xs x n (omega arith)
 
 module _ {V : Type 0} where
   -- a child item's number is among the children
-  pub Contains-child : (items : List (Item V)) (k c : ℕ) → slice_get items k ≡ Some (Child c) → Contains (filter_map child_number items) c
-  Contains-child [] k c e = cc
-  Contains-child (Child d ∷ items) zero c e = (0, (omega arith), cc)
-  Contains-child (Leaf v ∷ items) zero c e = cc
-  Contains-child (Child d ∷ items) (suc k) c e = let later = Contains-child items k c e in (suc later.0, (omega (arith, later.1)), later.2)
-  Contains-child (Leaf v ∷ items) (suc k) c e = Contains-child items k c e
-
   pub length-with_item : (t : Tree V) (p : ℕ) (x : Item V) → length (with_item t p x) ≡ length t
   length-with_item [] p x = refl
   length-with_item (node ∷ t) zero x = refl

@@ -7,7 +7,7 @@ use Rattle.lido_base.proofs.EquationsLemmas.{contains-later}
 use Rattle.lido_base.proofs.TreeLemmas.{parent_before, ancestors-root, ancestors-child, contains-cons}
 use Rattle.tree_store.specs.Growth.{IsOpen}
 use Rattle.tree_store.proofs.GrowthLemmas.{length-with_node, length-with_item, parent_of-with_item, parent_of_before, parent_of_last, ancestors_same, open_inside, IsTree-with_node, items_of-append, items_of-parent, items_of-other, get_before, get_last}
-use Rattle.tree_store.proofs.ReadingLemmas.{parent_there}
+use Rattle.lido_base.proofs.PathLemmas.{parent_there}
 
 -- an item that is added stands behind the others
 pub item_below : {V : Type 0} (t : Tree V) (p : ℕ) (added : Item V) (n k : ℕ) (x : Item V) → slice_get (items_of t n) k ≡ Some x → slice_get (items_of (with_item t p added) n) k ≡ Some x

@@ -29,7 +29,7 @@ use Rattle.trials_of_grammar.specs.ListOfItems.{symbol, occurrence, call1}
 
 -- a synthesized attribute
 abbrev pub attribute : ℕ → FlatAttr
-attribute name = record { name = record { 0 = name }; kind = Synthesized; ty = type.Text; written = true }
+attribute name = record { name = record { 0 = name }; kind = Synthesized; ty = type.Text; written = true; message = false }
 
 -- a nonterminal or a terminal
 abbrev pub named : ℕ → Option ValueType → List FlatAttr → FlatSymbol

@@ -2,6 +2,7 @@
 //! on this crate.
 #![tactic(auto)]
 
+pub mod coordinates;
 pub mod expressions;
 #[cfg(test)]
 mod part_tests;

@@ -3,7 +3,7 @@ use Rattle.std.proofs.lemmas.List.{length-set}
 use Rattle.lido_base.specs.declared.ids.NodeId.{NodeId}
 use Rattle.lido_base.specs.Tree.{parent_of}
 use Rattle.tree_store.specs.Regions.{region}
-use Rattle.tree_store.proofs.ReadingLemmas.{parent_there}
+use Rattle.lido_base.proofs.PathLemmas.{parent_there}
 use Rattle.subtree_split.proofs.RegionsLemmas.{region_root, before_step, behind_step, all_regions}
 use Rattle.subtree_split.proofs.regions.regions_of.Goals as goal
 

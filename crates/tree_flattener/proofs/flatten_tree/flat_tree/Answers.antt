@@ -1,6 +1,6 @@
 use Rattle.std.proofs.Common.{arith, sym, subst, ap, ◌∙◌, length}
 use Rattle.tree_flattener.specs.Forms.{AreForms}
-use Rattle.tree_flattener.proofs.PathLemmas.{root_on_path}
+use Rattle.lido_base.proofs.PathLemmas.{root_on_path}
 use Rattle.tree_flattener.proofs.WalkLemmas.{inside, child_inside, flat_tree_closed, numbered_closed, all_inside}
 use Rattle.tree_flattener.proofs.flatten_tree.flat_tree.Goals as goal
 

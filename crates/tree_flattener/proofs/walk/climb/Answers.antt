@@ -1,7 +1,7 @@
 use Rattle.std.proofs.Common.{refl, ap, arith, ◌∙◌, length, inl}
 use Rattle.lido_base.proofs.TreeLemmas.{parent_before}
 use Rattle.tree_flattener.proofs.ClimbLemmas.{further_up, still_around}
-use Rattle.tree_flattener.proofs.PathLemmas.{above_before, path_up}
+use Rattle.lido_base.proofs.PathLemmas.{above_before, path_up}
 use Rattle.tree_flattener.proofs.walk.climb.Goals as goal
 
 pub loop-at-init : goal.loop-at-init

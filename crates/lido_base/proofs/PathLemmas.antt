@@ -1,16 +1,42 @@
--- What preorder says of the path to a node.
+-- Children, parents and subtrees of a tree in preorder.
 use Rattle.std.specs.Prelude.{Contains, IsTrue, nat_eq, nat_lt, filter_map, slice_get, AllPairs}
 use Rattle.std.proofs.Common.{◌≡◌, ℕ, zero, suc, ◌+◌, ◌<◌, ◌≤◌, ◌⊎◌, inl, inr, List, [], ◌∷◌, length, Option, Some, None, refl, ap, sym, subst, ◌∙◌, arith, add-one, eqb-true}
-use Rattle.std.proofs.lemmas.Bool.{cases_lt}
+use Rattle.std.proofs.lemmas.Bool.{cases_lt, lt-ltb, eq-eqb}
 use Rattle.std.proofs.Math.Nat.{eq-or-lt_of_le}
 use Rattle.std.proofs.lemmas.List.Kept.{AllPairs-from_increasing}
 use Rattle.std.proofs.lemmas.Option.{slice_get_within}
 use Rattle.lido_base.specs.Tree.{Tree, Item, Child, Leaf, IsTree, child_number, parent_of, place_of, items_of, item_at, children, ancestors, contains, continues, is_just}
+use Rattle.lido_base.specs.Subtrees.{IsInSubtree}
 use Rattle.lido_base.proofs.EquationsLemmas.{contains-later}
 use Rattle.lido_base.proofs.TreeLemmas.{parent_before, ancestors-root, ancestors-child, contains-cons, contains-test, test-contains, both, either, is_just-some}
-use Rattle.tree_store.proofs.GrowthLemmas.{Contains-child}
-use Rattle.tree_store.proofs.ReadingLemmas.{child_of_parent, parent_there}
-use Rattle.tree_flattener.specs.Drafts.{Table, IsOnPath}
+
+module _ {V : Type 0} where
+  pub Contains-child : (items : List (Item V)) (k c : ℕ) → slice_get items k ≡ Some (Child c) → Contains (filter_map child_number items) c
+  Contains-child [] k c e = cc
+  Contains-child (Child d ∷ items) zero c e = (0, (omega arith), cc)
+  Contains-child (Leaf v ∷ items) zero c e = cc
+  Contains-child (Child d ∷ items) (suc k) c e = let later = Contains-child items k c e in (suc later.0, (omega (arith, later.1)), later.2)
+  Contains-child (Leaf v ∷ items) (suc k) c e = Contains-child items k c e
+
+-- the item of a child is somewhere
+child_item : {V : Type 0} (items : List (Item V)) (c : ℕ) → Contains (filter_map child_number items) c → (k : ℕ) × (slice_get items k ≡ Some (Child c))
+child_item [] c m = absurd (omega (arith, m.1))
+child_item (Leaf v ∷ items) c m = let later = child_item items c m in (suc later.0, later.1)
+child_item (Child d ∷ items) c (zero, h, e) = (zero, ap (λ x. Some (Child x)) e)
+child_item (Child d ∷ items) c (suc k, h, e) = let later = child_item items c (k, (omega arith), e) in (suc later.0, later.1)
+
+module _ {V : Type 0} (t : Tree V) (tree : IsTree t) where
+  -- each node but the root has a parent
+  pub parent_there : (n : ℕ) → n + 1 < length t → (p : ℕ) × (parent_of t (n + 1) ≡ Some p)
+  parent_there n h = go (parent_of t (n + 1)) refl (tree.in_preorder n h)
+    where
+      go : (o : Option ℕ) → parent_of t (n + 1) ≡ o → IsTrue (continues t n o) → (p : ℕ) × (parent_of t (n + 1) ≡ Some p)
+      go None e follows = cc
+      go (Some p) e follows = (p, e)
+
+  -- a node whose parent is p stands among the items of p
+  pub child_of_parent : (c p : ℕ) → c < length t → parent_of t c ≡ Some p → (k : ℕ) × (item_at t p (suc k) ≡ Some (Child c))
+  child_of_parent c p h e = child_item (items_of t p) c (contains-test c (children t p) (tree.items_agree p c ∙ rw (lt-ltb c (length t) h, e) (eq-eqb p p refl)))
 
 -- each number is below all later ones
 abbrev Rises : List ℕ → Type 0
@@ -40,7 +66,7 @@ with_parent_inside [] n p e = cc
 with_parent_inside (node ∷ t) zero p e = omega arith
 with_parent_inside (node ∷ t) (suc n) p e = let h = with_parent_inside t n p e in omega arith
 
-module _ (W : Table) (tree : IsTree W) where
+module _ {V : Type 0} (W : Tree V) (tree : IsTree W) where
   pub above_self : (n p m : ℕ) → parent_of W n ≡ Some p → Contains (ancestors W n) m → (p ≡ m) ⊎ Contains (ancestors W p) m
   above_self n p m e among = contains-cons p m (ancestors W p) (rw (ancestors-child W tree n p e) at among)
 
@@ -82,12 +108,12 @@ module _ (W : Table) (tree : IsTree W) where
   above_above n q m = above_above_by n n q m (omega arith)
 
   -- the parent of the node behind x is on the path to x
-  pub preorder_parent : (x q : ℕ) → parent_of W (suc x) ≡ Some q → IsOnPath W x q
+  pub preorder_parent : (x q : ℕ) → parent_of W (suc x) ≡ Some q → IsInSubtree W q x
   preorder_parent x q e = let inside = with_parent_inside W (suc x) q e in
       let h = subst (λ o. IsTrue (continues W x o)) (ap (parent_of W) (add-one x) ∙ e) (tree.in_preorder x (omega arith)) in
       go (either (nat_eq q x) (contains q (ancestors W x)) h)
     where
-      go : IsTrue (nat_eq q x) ⊎ IsTrue (contains q (ancestors W x)) → IsOnPath W x q
+      go : IsTrue (nat_eq q x) ⊎ IsTrue (contains q (ancestors W x)) → IsInSubtree W q x
       go (inl same) = inl (eqb-true q x same)
       go (inr among) = inr (contains-test q (ancestors W x) among)
 
@@ -96,11 +122,11 @@ module _ (W : Table) (tree : IsTree W) where
   between_by (suc d) zero m y b among low high = absurd (omega arith)
   between_by (suc d) (suc x) m y b among low high = go (eq-or-lt_of_le high) (λ l a. between_by d x m y (omega arith) a low l)
     where
-      onward : IsOnPath W x m
+      onward : IsInSubtree W m x
       onward = let up = has_parent (suc x) m among in at up.0 (preorder_parent x up.0 up.1) (above_self (suc x) up.0 m up.1 among)
         where
-          at : (q : ℕ) → IsOnPath W x q → (q ≡ m) ⊎ Contains (ancestors W q) m → IsOnPath W x m
-          at q path (inl same) = subst (IsOnPath W x) same path
+          at : (q : ℕ) → IsInSubtree W q x → (q ≡ m) ⊎ Contains (ancestors W q) m → IsInSubtree W m x
+          at q path (inl same) = subst (λ z. IsInSubtree W z x) same path
           at q (inl here) (inr above) = inr (subst (λ z. Contains (ancestors W z) m) here above)
           at q (inr there) (inr above) = inr (above_above x q m there above)
 
@@ -108,7 +134,7 @@ module _ (W : Table) (tree : IsTree W) where
       go (inl same) ih = subst (λ z. Contains (ancestors W z) m) (sym same) among
       go (inr less) ih = on onward
         where
-          on : IsOnPath W x m → Contains (ancestors W y) m
+          on : IsInSubtree W m x → Contains (ancestors W y) m
           on (inl here) = absurd (omega arith)
           on (inr there) = ih (omega arith) there
 
@@ -139,17 +165,17 @@ module _ (W : Table) (tree : IsTree W) where
       go zero at = cc
       go (suc k) at = let h = slice_get_within (items_of W p) k (Child m) at in omega arith
 
-  pub on_path_before : (l m : ℕ) → IsOnPath W l m → m ≤ l
+  pub on_path_before : (l m : ℕ) → IsInSubtree W m l → m ≤ l
   on_path_before l m (inl same) = omega arith
   on_path_before l m (inr above) = let h = above_before l m above in omega arith
 
   -- the path to the parent of a node on it
-  pub path_up : (l m p : ℕ) → IsOnPath W l m → parent_of W m ≡ Some p → IsOnPath W l p
+  pub path_up : (l m p : ℕ) → IsInSubtree W m l → parent_of W m ≡ Some p → IsInSubtree W p l
   path_up l m p (inl same) e = inr (parent_above l p (ap (parent_of W) (sym same) ∙ e))
   path_up l m p (inr above) e = inr (above_above l m p above (parent_above m p e))
 
   -- the children of the parent up to a node on the path to l were met by l, and those behind it were not
-  pub before_up : (l m p : ℕ) → IsOnPath W l m → parent_of W m ≡ Some p → (k c : ℕ) → item_at W p k ≡ Some (Child c) → k ≤ place_of W m → c < suc l
+  pub before_up : (l m p : ℕ) → IsInSubtree W m l → parent_of W m ≡ Some p → (k c : ℕ) → item_at W p k ≡ Some (Child c) → k ≤ place_of W m → c < suc l
   before_up l m p path up k c e h = go (eq-or-lt_of_le h)
     where
       low : m ≤ l
@@ -159,7 +185,7 @@ module _ (W : Table) (tree : IsTree W) where
       go (inl same) = let here = some_child c m e (ap (item_at W p) same ∙ own_item m p up) in omega (arith, here, low)
       go (inr less) = let l = ascending p k (place_of W m) c m e (own_item m p up) less in omega (arith, low)
 
-  pub behind_up : (l m p : ℕ) → IsOnPath W l m → parent_of W m ≡ Some p → (k c : ℕ) → item_at W p k ≡ Some (Child c) → place_of W m < k → suc l ≤ c
+  pub behind_up : (l m p : ℕ) → IsInSubtree W m l → parent_of W m ≡ Some p → (k c : ℕ) → item_at W p k ≡ Some (Child c) → place_of W m < k → suc l ≤ c
   behind_up l m p path up k c e h = go (cases_lt l c) path
     where
       later : m < c
@@ -172,13 +198,13 @@ module _ (W : Table) (tree : IsTree W) where
       not_inside (inl same) = omega (arith, before)
       not_inside (inr above) = let l = above_before p m above in omega (arith, before)
 
-      go : (l < c) ⊎ (c ≤ l) → IsOnPath W l m → suc l ≤ c
+      go : (l < c) ⊎ (c ≤ l) → IsInSubtree W m l → suc l ≤ c
       go (inl past) on = omega arith
       go (inr within) (inl same) = omega (arith, later)
       go (inr within) (inr above) = absurd (not_inside (above_self c p m (child_parent p k c e) (between l m c above later within)))
 
   -- a node that is left for the next one has no children behind it
-  pub no_more : (l m p : ℕ) → IsOnPath W l m → parent_of W (suc l) ≡ Some p → Contains (ancestors W m) p → (k c : ℕ) → item_at W m k ≡ Some (Child c) → c < suc l
+  pub no_more : (l m p : ℕ) → IsInSubtree W m l → parent_of W (suc l) ≡ Some p → Contains (ancestors W m) p → (k c : ℕ) → item_at W m k ≡ Some (Child c) → c < suc l
   no_more l m p path up above k c e = go (cases_lt c (suc l))
     where
       low : m ≤ l
@@ -195,15 +221,33 @@ module _ (W : Table) (tree : IsTree W) where
       go (inl h) = h
       go (inr h) = absurd (not_inside (above_self (suc l) p m up (between c m (suc l) (parent_above c m (child_parent m k c e)) (omega (arith, low)) h)))
 
-  root_on_path_by : (k n : ℕ) → n ≤ k → n < length W → IsOnPath W n 0
+  root_on_path_by : (k n : ℕ) → n ≤ k → n < length W → IsInSubtree W 0 n
   root_on_path_by k zero b h = inl refl
   root_on_path_by zero (suc n) b h = absurd (omega arith)
   root_on_path_by (suc k) (suc n) b h = let up = parent_there W tree n (omega arith) in let e : parent_of W (suc n) ≡ Some up.0 = rw add-one at up.1 in let before = parent_before W tree (suc n) up.0 e in go up.0 e (root_on_path_by k up.0 (omega arith) (omega arith))
     where
-      go : (p : ℕ) → parent_of W (suc n) ≡ Some p → IsOnPath W p 0 → IsOnPath W (suc n) 0
+      go : (p : ℕ) → parent_of W (suc n) ≡ Some p → IsInSubtree W 0 p → IsInSubtree W 0 (suc n)
       go p e (inl same) = inr (subst (Contains (ancestors W (suc n))) (sym same) (parent_above (suc n) p e))
       go p e (inr above) = inr (above_parent (suc n) p 0 e above)
 
   -- the root is on each path
-  pub root_on_path : (n : ℕ) → n < length W → IsOnPath W n 0
+  pub root_on_path : (n : ℕ) → n < length W → IsInSubtree W 0 n
   root_on_path n h = root_on_path_by n n (omega arith) h
+
+  pub child_place : (p place c : ℕ) → item_at W p place ≡ Some (Child c) → place_of W c ≡ place
+  child_place p zero c e = cc
+  child_place p (suc k) c e = tree.places_agree p k c e
+
+  -- a subtree of a subtree
+  pub in_subtree : (m q n : ℕ) → IsInSubtree W m q → IsInSubtree W q n → IsInSubtree W m n
+  in_subtree m q n (inl same) within = subst (λ x. IsInSubtree W x n) (sym same) within
+  in_subtree m q n (inr above) (inl same) = inr (subst (λ x. Contains (ancestors W x) m) same above)
+  in_subtree m q n (inr above) (inr below) = inr (above_above n q m below above)
+
+  pub together : (m n y : ℕ) → IsInSubtree W m n → m ≤ y → y ≤ n → IsInSubtree W m y
+  together m n y within low high = go (eq-or-lt_of_le low) within
+    where
+      go : (m ≡ y) ⊎ (m < y) → IsInSubtree W m n → IsInSubtree W m y
+      go (inl same) on = inl same
+      go (inr less) (inl same) = absurd (omega arith)
+      go (inr less) (inr above) = inr (between n m y above less high)

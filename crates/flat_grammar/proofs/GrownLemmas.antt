@@ -1,16 +1,17 @@
 -- The flat tree of a written tree has at each node what the node's rule says.
-use Rattle.std.specs.Prelude.{Contains, slice_get, filter_map, is_some, IsTrue, Bool, true, false, ◌&&◌, nat_lt, if◌then◌else◌}
+use Rattle.std.specs.Prelude.{Contains, slice_get, is_some, IsTrue, Bool, true, false, if◌then◌else◌}
 use Rattle.std.specs.List.{AllZip}
-use Rattle.std.proofs.Common.{◌≡◌, ℕ, zero, suc, ◌+◌, ◌<◌, ◌≤◌, ◌⊎◌, inl, inr, List, [], ◌∷◌, length, map, Option, Some, None, refl, arith, ap, sym, subst, ◌∙◌, lt-ltb, eq-eqb, true≢false}
+use Rattle.std.proofs.Common.{◌≡◌, ℕ, zero, suc, ◌+◌, ◌<◌, ◌≤◌, ◌⊎◌, inl, inr, List, [], ◌∷◌, length, map, Option, Some, None, refl, arith, ap, sym, subst, ◌∙◌, true≢false}
 use Rattle.std.proofs.lemmas.Option.{none-some, slice_get-get_or}
 use Rattle.std.proofs.lemmas.Bool.{cases_Bool}
 use Rattle.std.proofs.lemmas.List.Elements.{All-contains}
 use Rattle.lido_base.specs.declared.ids.SymId.{SymId}
 use Rattle.lido_base.specs.declared.value.Value.{Value}
 use Rattle.lido_base.specs.Plain.{Plain, plain_item, plain_tree}
-use Rattle.lido_base.specs.Tree.{Tree, Item, Child, Leaf, child_number, rule_at, items_of, children, parent_of, continues, is_just, IsTree}
+use Rattle.lido_base.specs.Tree.{Tree, Item, Child, Leaf, child_number, rule_at, items_of, children, parent_of}
 use Rattle.lido_base.proofs.Lists.{map-contains}
-use Rattle.lido_base.proofs.TreeLemmas.{parent_before, contains-test}
+use Rattle.lido_base.proofs.TreeLemmas.{parent_before}
+use Rattle.lido_base.proofs.PathLemmas.{parent_there, child_of_parent}
 use Rattle.lido_base.proofs.PlainLemmas.{plain_rule, plain_items, plain_length}
 use Rattle.flat_grammar.specs.declared.flat.FlatSymbol.{FlatSymbol}
 use Rattle.flat_grammar.specs.declared.flat.FlatRule.{FlatRule}
@@ -44,27 +45,6 @@ same-child c d e = held (ap child_number (held e))
 
 no-leaf : {V : Type 0} (v : V) (c : ℕ) → Some (Leaf v) ≡ Some (Child c) → ⊥
 no-leaf v c e = none-some c (ap child_number (held e))
-
-listed-child : {V : Type 0} (items : List (Item V)) (c : ℕ) → Contains (filter_map child_number items) c → (k : ℕ) × (slice_get items k ≡ Some (Child c))
-listed-child [] c h = absurd (contains-nil c h)
-listed-child (Child d ∷ items) c h = go (contains-cons d c (filter_map child_number items) h) (listed-child items c)
-  where
-    go : (d ≡ c) ⊎ Contains (filter_map child_number items) c → (Contains (filter_map child_number items) c → (k : ℕ) × (slice_get items k ≡ Some (Child c)))
-        → (k : ℕ) × (slice_get (Child d ∷ items) k ≡ Some (Child c))
-    go (inl e) later = (0, ap (λ n. Some (Child n)) e)
-    go (inr m) later = let p = later m in (suc p.0, p.1)
-listed-child (Leaf v ∷ items) c h = let p = listed-child items c h in (suc p.0, p.1)
-
--- each node but the root stands at a place of its parent
-pub place-in-parent : {V : Type 0} (t : Tree V) → IsTree t → (d p : ℕ) → d < length t → parent_of t d ≡ Some p → (k : ℕ) × (slice_get (items_of t p) k ≡ Some (Child d))
-place-in-parent t w d p h e = listed-child (items_of t p) d (contains-test d (children t p) (w.items_agree p d ∙ here))
-  where
-    just : (o : Option ℕ) → o ≡ Some p → is_just p o ≡ true
-    just None f = absurd (none-some _ f)
-    just (Some q) f = eq-eqb q p (held f)
-
-    here : (nat_lt d (length t) && is_just p (parent_of t d)) ≡ true
-    here = rw (lt-ltb d (length t) h) (just (parent_of t d) e)
 
 -- ---- shapes
 
@@ -164,13 +144,6 @@ module _ {V : Type 0} (symbols : List FlatSymbol) (rules : List FlatRule) (shape
     elements : List ℕ
     cells : Cells cell list n elements
 
-  parent-some : (n : ℕ) → n + 1 < length F → (p : ℕ) × (parent_of F (n + 1) ≡ Some p)
-  parent-some n h = go (parent_of F (n + 1)) refl (flat.tree.in_preorder n h)
-    where
-      go : (o : Option ℕ) → parent_of F (n + 1) ≡ o → IsTrue (continues F n o) → (p : ℕ) × (parent_of F (n + 1) ≡ Some p)
-      go None e c = absurd (true≢false (sym c))
-      go (Some p) e c = (p, e)
-
   not-cell : (n : ℕ) (r : FlatRule) → At n r → is_cell rules shapes r.left ≡ false → ¬ IsCell n
   not-cell n r at h c = true≢false (sym c.2 ∙ (ap (λ (z : FlatRule). is_cell rules shapes z.left) (one-rule rules F n c.0 r c.1 at) ∙ h))
 
@@ -225,9 +198,9 @@ module _ {V : Type 0} (symbols : List FlatSymbol) (rules : List FlatRule) (shape
   in-chain zero (suc m) l h c = absurd (omega arith)
   in-chain (suc fuel) (suc m) l h c =
       let e : m + 1 ≡ suc m = omega arith in
-      let q = parent-some m (omega arith) in
+      let q = parent_there F flat.tree m (omega arith) in
       let up : parent_of F (suc m) ≡ Some q.0 = ap (λ z. parent_of F z) (sym e) ∙ q.1 in
-      let k = place-in-parent F flat.tree (suc m) q.0 h up in
+      let k = child_of_parent F flat.tree (suc m) q.0 h up in
       let before = parent_before F flat.tree (suc m) q.0 up in
       let r = has-rule q.0 (omega arith) in
       under (suc m) q.0 k.0 r.0 c r.1 (omega arith) k.1 (cases_Bool (is_cell rules shapes r.0.left)) (λ d. in-chain fuel q.0 (omega arith) (omega arith) d)

@@ -281,7 +281,7 @@ module _ (spec : Spec) (sets : Sets spec) (env : Environment) (t : Tree Plain) (
       go (inl (h, comp, (r, at, force))) = (value_by spec sets env t A (λ chain. Void) n h r comp, inl (h, comp, r, (r, at, force), at, refl))
       go (inr none) = (value_at A n (Front c), inr (none, refl))
 
-  last : (x : ℕ) (xs : List ℕ) → (before : List ℕ) × (m : ℕ) × (x ∷ xs ≡ before ++ m ∷ [])
+  pub last : (x : ℕ) (xs : List ℕ) → (before : List ℕ) × (m : ℕ) × (x ∷ xs ≡ before ++ m ∷ [])
   last x [] = ([], x, refl)
   last x (y ∷ ys) = let more = last y ys in (x ∷ more.0, more.1, ap (λ zs. x ∷ zs) more.2)
 

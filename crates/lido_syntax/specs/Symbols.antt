@@ -8,10 +8,11 @@ use Rattle.lido_syntax.specs.declared.spec.Typed1.{Typed1}
 use Rattle.lido_syntax.specs.Production.{name_of, left_of, right_of}
 
 module _ (spec : Spec) where
-  -- a nonterminal stands on a left side
+  -- a test for nonterminals: they stand on a left side
   abbrev pub is_nonterminal : ℕ → Bool
   is_nonterminal s = contains s (map left_of spec.rules)
 
+  -- the symbol is a nonterminal
   abbrev pub IsNonterminal : ℕ → Type 0
   IsNonterminal s = IsTrue (is_nonterminal s)
 

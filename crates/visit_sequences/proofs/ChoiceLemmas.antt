@@ -28,7 +28,7 @@ use Rattle.visit_sequences.specs.declared.goals.Goal.{Goal}
 use Rattle.visit_sequences.specs.declared.listed.Listed.{Listed}
 use Rattle.visit_sequences.specs.declared.progress.Progress.{Progress}
 use Rattle.visit_sequences.specs.declared.rest.Rest.{Rest}
-use Rattle.visit_sequences.specs.Steps.{row_of, IsBefore, IsGoal, AreGoals, HasBit, Follows, IsOpen, HasAll, IsListed, IsOfUseFrom, IsReadyAt, IsNextAt, AreListedChildren, AreOver, IsRest, IsSameBut, Owes, IsLeastChild, IsNoChild}
+use Rattle.visit_sequences.specs.Steps.{visits_there, IsBefore, IsGoal, AreGoals, HasBit, Follows, IsOpen, HasAll, IsListed, IsOfUseFrom, IsReadyAt, IsNextAt, AreListedChildren, AreOver, IsRest, IsSameBut, Owes, IsLeastChild, IsNoChild}
 use Rattle.visit_sequences.proofs.Classes.{row-there}
 use Rattle.visit_sequences.proofs.Occurrences.{rule-is}
 use Rattle.visit_sequences.proofs.StepLemmas.{row-class, class-row}
@@ -123,10 +123,10 @@ module _ (symbols : List FlatSymbol) (rules : List FlatRule) (visits : List (Lis
   child-inside : (k : ℕ) → k ≤ length r.right → k < length (symbols_of r)
   child-inside k h = omega (arith, h)
 
-  next-of : (k : ℕ) (c : VisitClass) → 0 < k → k < length (symbols_of r) → slice_get (row_of visits r k) (made k) ≡ Some c → IsNext symbols rules visits r Before k (suc (made k)) c
+  next-of : (k : ℕ) (c : VisitClass) → 0 < k → k < length (symbols_of r) → slice_get (visits_there visits r k) (made k) ≡ Some c → IsNext symbols rules visits r Before k (suc (made k)) c
   next-of k c pos h e = (pos, ap suc (follows.made k h), row-class visits r k (made k) c e)
 
-  of-next : (k v : ℕ) (c : VisitClass) → IsNext symbols rules visits r Before k v c → (v ≡ suc (made k)) × (slice_get (row_of visits r k) (made k) ≡ Some c)
+  of-next : (k v : ℕ) (c : VisitClass) → IsNext symbols rules visits r Before k v c → (v ≡ suc (made k)) × (slice_get (visits_there visits r k) (made k) ≡ Some c)
   of-next k v c (pos, e, at) =
       let h = inside k v c at in
       let same : v ≡ suc (made k) = e ∙ ap suc (sym (follows.made k h)) in
@@ -144,24 +144,24 @@ module _ (symbols : List FlatSymbol) (rules : List FlatRule) (visits : List (Lis
   next-at : (k : ℕ) → 0 < k → k < length (symbols_of r) → IsNextAt visits r p k → (c : VisitClass) × IsNext symbols rules visits r Before k (suc (made k)) c
   next-at k pos h l =
       let empty : VisitClass = record { inherited = []; synthesized = [] } in
-      (get_or (row_of visits r k) (made k) empty, next-of k (get_or (row_of visits r k) (made k) empty) pos h (slice_get-get_or (row_of visits r k) (made k) empty l))
+      (get_or (visits_there visits r k) (made k) empty, next-of k (get_or (visits_there visits r k) (made k) empty) pos h (slice_get-get_or (visits_there visits r k) (made k) empty l))
 
   at-next : (k v : ℕ) (c : VisitClass) → IsNext symbols rules visits r Before k v c → (0 < k) × IsNextAt visits r p k
-  at-next k v c next = let o = of-next k v c next in (next.0, slice_get_within (row_of visits r k) (made k) c o.1)
+  at-next k v c next = let o = of-next k v c next in (next.0, slice_get_within (visits_there visits r k) (made k) c o.1)
 
   child-of : (k v : ℕ) (c : VisitClass) → IsNext symbols rules visits r Before k v c → k ≤ length r.right
   child-of k v c next = let h = inside k v c next.2 in omega (arith, h)
 
   module _ (shapes : List Shape) (root : SymId) (w : IsWellFormed symbols rules shapes root) (all : AreAllVisits symbols rules visits) (among : Contains rules r) where
-    left-row : (row : List VisitClass) × (slice_get visits r.left.0 ≡ Some row) × (row_of visits r 0 ≡ row)
+    left-row : (row : List VisitClass) × (slice_get visits r.left.0 ≡ Some row) × (visits_there visits r 0 ≡ row)
     left-row =
         let p = row-there symbols rules visits all r.left (rule-is symbols rules shapes root w r among).left_side in
         (p.0, p.1, ap (λ (o : Option (List VisitClass)). Rattle.std.specs.Prelude.unwrap_or o []) p.1)
 
-    last-is : p.segment ≡ length (row_of visits r 0) → IsLastSegment symbols rules visits r Before
+    last-is : p.segment ≡ length (visits_there visits r 0) → IsLastSegment symbols rules visits r Before
     last-is e = (left-row.0, left-row.1, sym follows.segment ∙ (e ∙ ap (λ l. length l) left-row.2))
 
-    is-last : IsLastSegment symbols rules visits r Before → p.segment ≡ length (row_of visits r 0)
+    is-last : IsLastSegment symbols rules visits r Before → p.segment ≡ length (visits_there visits r 0)
     is-last (row, e, f) = follows.segment ∙ (f ∙ (ap (λ (l : List VisitClass). length l) (held (sym e ∙ left-row.1)) ∙ sym (ap (λ l. length l) left-row.2)))
 
     owes-owing : Owes visits r p goals → IsOwing symbols rules visits r Before
@@ -182,7 +182,7 @@ module _ (symbols : List FlatSymbol) (rules : List FlatRule) (visits : List (Lis
     no-ready_visit none (owing, k, v, ready) =
         let h = visit-ready k v ready in none (owing-owes owing) k h.0 (child-of k v ready.0 ready.1) h.1
 
-    pub no-next : (p.segment ≡ length (row_of visits r 0) → IsNoChild r (IsNextAt visits r p)) → HasNext symbols rules visits r Before → ⊥
+    pub no-next : (p.segment ≡ length (visits_there visits r 0) → IsNoChild r (IsNextAt visits r p)) → HasNext symbols rules visits r Before → ⊥
     no-next none (last, k, v, c, next) = let h = at-next k v c next in none (is-last last) k h.0 (child-of k v c next) h.1
 
     -- the visit that is found is the one chosen
@@ -191,13 +191,13 @@ module _ (symbols : List FlatSymbol) (rules : List FlatRule) (visits : List (Lis
         (ready_visit (quiet-is none) (owes-owing owes) (ready-visit k pos (child-inside k h) ready) (λ j v other. let o = visit-ready j v other in least j o.0 o.1))
 
     pub chosen-next : (k : ℕ) (item : PlanItem) → All (λ g. IsOpen p g → ⊥) goals → (Owes visits r p goals → IsNoChild r (IsReadyAt visits r p))
-        → (p.segment ≡ length (row_of visits r 0)) × IsLeastChild r (IsNextAt visits r p) k → item ≡ Visit k (suc (slice_index p.made.items k)) → IsChosen symbols rules visits r Before item
+        → (p.segment ≡ length (visits_there visits r 0)) × IsLeastChild r (IsNextAt visits r p) k → item ≡ Visit k (suc (slice_index p.made.items k)) → IsChosen symbols rules visits r Before item
     chosen-next k item none idle (last, (pos, h, has, least)) e =
         let next = next-at k pos (child-inside k h) has in
         subst (λ i. IsChosen symbols rules visits r Before i) (sym e)
         (next_visit next.0 (quiet-is none) (no-ready_visit idle) (last-is last) next.1 (λ j v c other. let o = at-next j v c other in least j o.0 o.1))
 
-    pub chosen-leave : (n : ℕ) → n ≡ p.segment → All (λ g. IsOpen p g → ⊥) goals → (Owes visits r p goals → IsNoChild r (IsReadyAt visits r p)) → (p.segment ≡ length (row_of visits r 0) → IsNoChild r (IsNextAt visits r p))
+    pub chosen-leave : (n : ℕ) → n ≡ p.segment → All (λ g. IsOpen p g → ⊥) goals → (Owes visits r p goals → IsNoChild r (IsReadyAt visits r p)) → (p.segment ≡ length (visits_there visits r 0) → IsNoChild r (IsNextAt visits r p))
         → IsChosen symbols rules visits r Before (Leave n)
     chosen-leave n e none idle over = subst (λ k. IsChosen symbols rules visits r Before (Leave k)) (sym (e ∙ follows.segment)) (leave (quiet-is none) (no-ready_visit idle) (no-next over))
 
@@ -205,7 +205,7 @@ module _ (symbols : List FlatSymbol) (rules : List FlatRule) (visits : List (Lis
 pub ready-child : (visits : List (List VisitClass)) (r : FlatRule) (p : Progress) (k : ℕ) → 0 < k → IsReadyAt visits r p k → k ≤ length r.right
 ready-child visits r p k pos ready = elim (cases_lt k (length (symbols_of r))) [
   | inl inside ↦ omega (arith, inside)
-  | inr past ↦ absurd (let l = slice_get_within (row_of visits r k) (slice_index p.made.items k) ready.0 ready.1 in let e : length (row_of visits r k) ≡ 0 = ap (λ (s : Option SymId). length (Rattle.std.specs.Prelude.unwrap_or (Rattle.std.specs.Prelude.option_and_then (λ (x : SymId). slice_get visits x.0) s) [])) (slice_get_past (symbols_of r) k past) in omega (arith, l, e))
+  | inr past ↦ absurd (let l = slice_get_within (visits_there visits r k) (slice_index p.made.items k) ready.0 ready.1 in let e : length (visits_there visits r k) ≡ 0 = ap (λ (s : Option SymId). length (Rattle.std.specs.Prelude.unwrap_or (Rattle.std.specs.Prelude.option_and_then (λ (x : SymId). slice_get visits x.0) s) [])) (slice_get_past (symbols_of r) k past) in omega (arith, l, e))
 ]
 
 -- the least that is listed is the least child that is ready, if it is ready
@@ -229,10 +229,10 @@ pub ready-stays : (visits : List (List VisitClass)) (r : FlatRule) (old new : Pr
 ready-stays visits r old new k changes j other (c, at, all, useful) =
     let same : slice_index new.made.items j ≡ slice_index old.made.items j = changes.made j other in (
       c,
-      subst (λ n. slice_get (row_of visits r j) n ≡ Some c) same at,
+      subst (λ n. slice_get (visits_there visits r j) n ≡ Some c) same at,
       All-weaker (λ (a : AttrId). HasBit new.evaluated.items (record { occ = j; attr = a })) (λ (a : AttrId). HasBit old.evaluated.items (record { occ = j; attr = a }))
           (λ a bit. elim (changes.evaluated (record { occ = j; attr = a }) bit) [ inl b ↦ b | inr e ↦ absurd (other e) ]) c.inherited all,
-      subst (λ n. IsOfUseFrom (row_of visits r j) n) same useful,
+      subst (λ n. IsOfUseFrom (visits_there visits r j) n) same useful,
     )
 
 pub listed-stay : (visits : List (List VisitClass)) (r : FlatRule) (old new : Progress) (k : ℕ) (before after : Listed) → IsSameBut old new k → ((j : ℕ) → IsListed before j ⊎ (j ≡ k) → IsListed after j) → AreListedChildren visits r old before → AreListedChildren visits r new after

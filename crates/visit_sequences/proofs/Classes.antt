@@ -20,6 +20,7 @@ use Rattle.flat_grammar.specs.WellFormed.{IsWellFormed, is_nonterminal, is_nonte
 use Rattle.flat_grammar.specs.Partition.{HasKind, IsPeeled, IsEarlier, IsClass, AreVisits, AreAllVisits, kind_of_class}
 use Rattle.flat_grammar.proofs.Lists.{contains-nil, contains-cons, contains-first, contains-later, contains-slice_get}
 use Rattle.flat_grammar.proofs.PartitionLemmas.{IsPeeled-grows, IsInClass-kind}
+use Rattle.flat_grammar.proofs.PeelingLemmas.{even-kind, odd-kind}
 
 pub value_in : {A : Type 0} (o : Option A) → IsSome o → (x : A) × (o ≡ Some x)
 value_in None h = absurd (true≢false (sym h))
@@ -51,13 +52,8 @@ slice_get-reverse xs k j x e f =
     let read = get_or_from_slice_get xs k x x e in
     slice_get-get_or (reverse xs) j x within ∙ ap Some (get_or-reverse xs j x (omega (arith, f)) ∙ (ap (λ n. get_or xs n x) place ∙ read))
 
-even-kind : (j : ℕ) → kind_of_class (2 * j) ≡ Synthesized
-even-kind zero = refl
-even-kind (suc j) = let e : 2 * suc j ≡ suc (suc (2 * j)) = omega arith in ap kind_of_class e ∙ even-kind j
-
-odd-kind : (j : ℕ) → kind_of_class (2 * j + 1) ≡ Inherited
-odd-kind zero = refl
-odd-kind (suc j) = let e : 2 * suc j + 1 ≡ suc (suc (2 * j + 1)) = omega arith in ap kind_of_class e ∙ odd-kind j
+odd-kind-next : (j : ℕ) → kind_of_class (2 * j + 1) ≡ Inherited
+odd-kind-next j = let e : 2 * j + 1 ≡ suc (2 * j) = omega arith in ap kind_of_class e ∙ odd-kind j
 
 module _ (symbols : List FlatSymbol) (rules : List FlatRule) where
   -- an attribute that is there stands at a nonterminal
@@ -104,7 +100,7 @@ module _ (symbols : List FlatSymbol) (rules : List FlatRule) where
 
     pub inherited-kind : (k : ℕ) (c : VisitClass) (a : AttrId) → slice_get row k ≡ Some c → Contains c.inherited a → HasKind symbols x Inherited a
     inherited-kind k c a e m = let h = classes-of k c e in
-        subst (λ z. HasKind symbols x z a) (odd-kind h.0) (IsInClass-kind symbols rules x (2 * h.0 + 1) a ((h.3.same a).0 m))
+        subst (λ z. HasKind symbols x z a) (odd-kind-next h.0) (IsInClass-kind symbols rules x (2 * h.0 + 1) a ((h.3.same a).0 m))
 
     kind-some : (kind : Kind) (a : AttrId) → HasKind symbols x kind a → IsSome (attribute_at symbols x a)
     kind-some kind a (attr, e, f) = some-is (attribute_at symbols x a) attr e
@@ -129,22 +125,22 @@ module _ (symbols : List FlatSymbol) (rules : List FlatRule) where
     abbrev pub Stands : AttrId → Type 0
     Stands a = (k : ℕ) × (c : VisitClass) × (slice_get row k ≡ Some c) × (Contains c.inherited a ⊎ Contains c.synthesized a)
 
-    search-classes : (a : AttrId) (n : ℕ) → n ≤ length row → Stands a ⊎ (IsPeeled symbols rules x (2 * n) a → ⊥)
+    pub search-classes : (a : AttrId) (n : ℕ) → n ≤ length row → (Stands a × IsPeeled symbols rules x (2 * n) a) ⊎ (IsPeeled symbols rules x (2 * n) a → ⊥)
     search-classes a zero h = inr (λ p. p)
     search-classes a (suc n) h = go (search-classes a n (omega (arith, h)))
       where
         k : ℕ
         k = length row - suc n
 
-        here : (c : VisitClass) → slice_get row k ≡ Some c → (IsPeeled symbols rules x (2 * n) a → ⊥) → Stands a ⊎ (IsPeeled symbols rules x (2 * suc n) a → ⊥)
+        here : (c : VisitClass) → slice_get row k ≡ Some c → (IsPeeled symbols rules x (2 * n) a → ⊥) → (Stands a × IsPeeled symbols rules x (2 * suc n) a) ⊎ (IsPeeled symbols rules x (2 * suc n) a → ⊥)
         here c e below = pick (contains-or c.synthesized a (λ b. same_attribute-or b a)) (contains-or c.inherited a (λ b. same_attribute-or b a))
           where
             there : IsClass symbols rules x (2 * n) c.synthesized × IsClass symbols rules x (2 * n + 1) c.inherited
             there = let p = classes-of k c e in let s = p.1 in let f : p.0 ≡ n = omega (arith, s, h) in (subst (λ j. IsClass symbols rules x (2 * j) c.synthesized) f p.2, subst (λ j. IsClass symbols rules x (2 * j + 1) c.inherited) f p.3)
 
-            pick : Contains c.synthesized a ⊎ (Contains c.synthesized a → ⊥) → Contains c.inherited a ⊎ (Contains c.inherited a → ⊥) → Stands a ⊎ (IsPeeled symbols rules x (2 * suc n) a → ⊥)
-            pick (inl m) other = inl (k, c, e, inr m)
-            pick (inr m) (inl i) = inl (k, c, e, inl i)
+            pick : Contains c.synthesized a ⊎ (Contains c.synthesized a → ⊥) → Contains c.inherited a ⊎ (Contains c.inherited a → ⊥) → (Stands a × IsPeeled symbols rules x (2 * suc n) a) ⊎ (IsPeeled symbols rules x (2 * suc n) a → ⊥)
+            pick (inl m) other = inl ((k, c, e, inr m), IsPeeled-grows symbols rules x (2 * suc n) (suc (2 * n)) a (omega arith) ((there.0.same a).0 m).0)
+            pick (inr m) (inl i) = inl ((k, c, e, inl i), IsPeeled-grows symbols rules x (2 * suc n) (suc (2 * n + 1)) a (omega arith) ((there.1.same a).0 i).0)
             pick (inr m) (inr i) = inr (λ p.
                 let one : IsPeeled symbols rules x (suc (2 * n)) a → ⊥ = λ q. m ((there.0.same a).1 (q, below)) in
                 let step : 2 * n + 1 ≡ suc (2 * n) = omega arith in
@@ -152,14 +148,14 @@ module _ (symbols : List FlatSymbol) (rules : List FlatRule) where
                 let last : 2 * suc n ≡ suc (2 * n + 1) = omega arith in
                 two (subst (λ j. IsPeeled symbols rules x j a) last p))
 
-        go : Stands a ⊎ (IsPeeled symbols rules x (2 * n) a → ⊥) → Stands a ⊎ (IsPeeled symbols rules x (2 * suc n) a → ⊥)
-        go (inl s) = inl s
+        go : (Stands a × IsPeeled symbols rules x (2 * n) a) ⊎ (IsPeeled symbols rules x (2 * n) a → ⊥) → (Stands a × IsPeeled symbols rules x (2 * suc n) a) ⊎ (IsPeeled symbols rules x (2 * suc n) a → ⊥)
+        go (inl s) = inl (s.0, IsPeeled-grows symbols rules x (2 * suc n) (2 * n) a (omega arith) s.1)
         go (inr below) = at (slice_get_cases row k).1
           where
-            at : ((c : VisitClass) × (k < length row) × (slice_get row k ≡ Some c) × (get_or row k c ≡ c)) ⊎ ((length row ≤ k) × (slice_get row k ≡ None)) → Stands a ⊎ (IsPeeled symbols rules x (2 * suc n) a → ⊥)
+            at : ((c : VisitClass) × (k < length row) × (slice_get row k ≡ Some c) × (get_or row k c ≡ c)) ⊎ ((length row ≤ k) × (slice_get row k ≡ None)) → (Stands a × IsPeeled symbols rules x (2 * suc n) a) ⊎ (IsPeeled symbols rules x (2 * suc n) a → ⊥)
             at (inl (c, l, e, f)) = here c e below
             at (inr (l, e)) = absurd (let s : k < length row = omega (arith, h) in omega (arith, l, s))
 
     -- each attribute of the symbol stands in a class
     pub stands : (a : AttrId) → IsSome (attribute_at symbols x a) → Stands a
-    stands a h = elim (search-classes a (length row) (omega arith)) [ inl s ↦ s | inr n ↦ absurd (n (are.all a h)) ]
+    stands a h = elim (search-classes a (length row) (omega arith)) [ inl s ↦ s.0 | inr n ↦ absurd (n (are.all a h)) ]

@@ -19,7 +19,7 @@ use Rattle.flat_grammar.specs.Dependencies.{DP, IDS, AreInducedRows}
 use Rattle.flat_grammar.specs.Partition.{IsInClass, IsEarlier, AreVisits, AreAllVisits}
 use Rattle.flat_grammar.proofs.Lists.{held, contains-slice_get}
 use Rattle.flat_grammar.proofs.PartitionLemmas.{IsPeeled-grows}
-use Rattle.visit_sequences.specs.Steps.{row_of, LacksBefore, PassedBefore, StandsBefore, IsBefore}
+use Rattle.visit_sequences.specs.Steps.{visits_there, LacksBefore, PassedBefore, StandsBefore, IsBefore}
 use Rattle.visit_sequences.proofs.Classes.{value_in, some-is, attribute-nonterminal, row-there, classes-of, stands, synthesized-kind, inherited-kind}
 use Rattle.visit_sequences.proofs.Occurrences.{symbol-there, IDS-attribute}
 
@@ -287,7 +287,7 @@ module _ (symbols : List FlatSymbol) (rules : List FlatRule) (shapes : List Shap
 
     -- the union of both sets is what comes before the goal
     pub before-is : (visits : List (List VisitClass)) → AreAllVisits symbols rules visits → (r : FlatRule) (goal : Occ) (x : SymId) (of_x : List ℕ) (before more set : ℕ) → IsSome (attribute_of symbols r goal) → symbol_at r goal.occ ≡ Some x → slice_get rows x.0 ≡ Some of_x
-        → ((a : AttrId) → IsBitSet before a.0 ↔ ((a.0 < 256) × StandsBefore (row_of visits r goal.occ) a goal.attr))
+        → ((a : AttrId) → IsBitSet before a.0 ↔ ((a.0 < 256) × StandsBefore (visits_there visits r goal.occ) a goal.attr))
         → ((a : AttrId) → IsBitSet more a.0 ↔ ((a.0 < 256) × (row : ℕ) × (slice_get of_x a.0 ≡ Some row) × IsBitSet row goal.attr.0))
         → ((j : ℕ) → IsBitSet set j ↔ (IsBitSet before j ⊎ IsBitSet more j)) → (a : AttrId) → IsBitSet set a.0 ↔ IsBefore symbols rules r goal a
     before-is visits all r goal x of_x before more set some at e has induced union a = (forth, back)
@@ -298,10 +298,10 @@ module _ (symbols : List FlatSymbol) (rules : List FlatRule) (shapes : List Shap
         row : (l : List VisitClass) × (slice_get visits x.0 ≡ Some l) × AreVisits symbols rules x l
         row = row-there symbols rules visits all x (attribute-nonterminal symbols rules shapes root w x goal.attr there)
 
-        same-row : row_of visits r goal.occ ≡ row.0
+        same-row : visits_there visits r goal.occ ≡ row.0
         same-row = ap (λ (o : Option SymId). Rattle.std.specs.Prelude.unwrap_or (option_and_then (λ (s : SymId). slice_get visits s.0) o) []) at ∙ ap (λ (o : Option (List VisitClass)). Rattle.std.specs.Prelude.unwrap_or o []) row.1
 
-        earlier : IsEarlier symbols rules x a goal.attr ↔ StandsBefore (row_of visits r goal.occ) a goal.attr
+        earlier : IsEarlier symbols rules x a goal.attr ↔ StandsBefore (visits_there visits r goal.occ) a goal.attr
         earlier = subst (λ l. IsEarlier symbols rules x a goal.attr ↔ StandsBefore l a goal.attr) (sym same-row) (earlier-is symbols rules x row.0 row.2 a goal.attr there)
 
         forth : IsBitSet set a.0 → IsBefore symbols rules r goal a

@@ -13,3 +13,4 @@ pub mod ChoiceLemmas
 pub mod MeasureLemmas
 pub mod QueueLemmas
 pub mod OrderLemmas
+pub mod FewVisits

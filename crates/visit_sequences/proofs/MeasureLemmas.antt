@@ -19,7 +19,7 @@ use Rattle.flat_grammar.specs.WellFormed.{is_same_occ}
 use Rattle.flat_grammar.specs.SoundPlan.{segment_after, visits_made, IsEvaluated, IsClassAt}
 use Rattle.flat_grammar.specs.Construction.{IsNext, IsChosen, evaluation, IsConstructed}
 use Rattle.flat_grammar.proofs.Lists.{held, contains-nil, contains-cons, contains-first, contains-later}
-use Rattle.visit_sequences.specs.Steps.{row_of}
+use Rattle.visit_sequences.specs.Steps.{visits_there}
 use Rattle.visit_sequences.proofs.Occurrences.{same-itself, same-occurrence}
 use Rattle.visit_sequences.proofs.Soundness.{leave-is, visit-next}
 use Rattle.visit_sequences.proofs.StepLemmas.{visit-counts_same, leave-segment, eval-segment, visit-segment, made-kept, segment-kept}
@@ -97,10 +97,10 @@ module _ (visits : List (List VisitClass)) (r : FlatRule) where
 
   -- what is left to do: goals, the children's visits, the left side's visits
   abbrev pub left_over : List PlanItem → ℕ
-  left_over before = left_goals before r.comps + (left_visits before 1 r.right + (length (row_of visits r 0) + 1 - segment_after before))
+  left_over before = left_goals before r.comps + (left_visits before 1 r.right + (length (visits_there visits r 0) + 1 - segment_after before))
 
   module _ (symbols : List FlatSymbol) (rules : List FlatRule) where
-    pub chosen-drops : (before : List PlanItem) (x : PlanItem) → IsChosen symbols rules visits r before x → segment_after before ≤ length (row_of visits r 0) → left_over (before ++ x ∷ []) < left_over before
+    pub chosen-drops : (before : List PlanItem) (x : PlanItem) → IsChosen symbols rules visits r before x → segment_after before ≤ length (visits_there visits r 0) → left_over (before ++ x ∷ []) < left_over before
     chosen-drops before (Eval o) (evaluation (left, h) least) within =
         let a = goals-drop o before r.comps left.0 left.1 in let b = visits-less before (Eval o) 1 r.right in let c = segment-kept visits r before (Eval o) in omega (arith, a, b, c)
     chosen-drops before (Visit k v) chosen within = go (visit-next symbols rules visits r before k v chosen)
@@ -121,12 +121,12 @@ module _ (visits : List (List VisitClass)) (r : FlatRule) where
         let a = goals-less before (Leave n) r.comps in let b = visits-less before (Leave n) 1 r.right in let c = leave-segment visits r before n in omega (arith, a, b, c, within)
 
     -- the present visit is not past the last
-    pub still-within : (before : List PlanItem) (x : PlanItem) → IsChosen symbols rules visits r before x → segment_after before ≤ length (row_of visits r 0) → (x ≡ Leave (length (row_of visits r 0)) → ⊥) → segment_after (before ++ x ∷ []) ≤ length (row_of visits r 0)
+    pub still-within : (before : List PlanItem) (x : PlanItem) → IsChosen symbols rules visits r before x → segment_after before ≤ length (visits_there visits r 0) → (x ≡ Leave (length (visits_there visits r 0)) → ⊥) → segment_after (before ++ x ∷ []) ≤ length (visits_there visits r 0)
     still-within before (Eval o) chosen within n = let a = eval-segment visits r before o in omega (arith, a, within)
     still-within before (Visit k v) chosen within n = let a = visit-segment visits r before k v in omega (arith, a, within)
     still-within before (Leave m) chosen within n =
         let a = leave-segment visits r before m in let b = leave-is symbols rules visits r before m chosen in
-        elim (cases_order m (length (row_of visits r 0))) [ inl e ↦ absurd (n (ap Leave e)) | inr o ↦ elim o [ inl l ↦ omega (arith, a, b, l) | inr g ↦ omega (arith, b, g, within) ] ]
+        elim (cases_order m (length (visits_there visits r 0))) [ inl e ↦ absurd (n (ap Leave e)) | inr o ↦ elim o [ inl l ↦ omega (arith, a, b, l) | inr g ↦ omega (arith, b, g, within) ] ]
 
     -- each item is the one that is chosen behind those before it
     abbrev pub EachChosen : List PlanItem → Type 0
@@ -152,7 +152,7 @@ module _ (visits : List (List VisitClass)) (r : FlatRule) where
         go (inr (inr g)) = let l = slice_get_within (items ++ x ∷ []) place item e in let m = length-append items (x ∷ []) in absurd (omega (arith, g, l, m))
 
     -- where the item ends the last visit, the items are the rule's sequence
-    pub whole-sequence : (items : List PlanItem) (x : PlanItem) (row : List VisitClass) → slice_get visits r.left.0 ≡ Some row → length (row_of visits r 0) ≡ length row → EachChosen (items ++ x ∷ []) → x ≡ Leave (length (row_of visits r 0))
+    pub whole-sequence : (items : List PlanItem) (x : PlanItem) (row : List VisitClass) → slice_get visits r.left.0 ≡ Some row → length (visits_there visits r 0) ≡ length row → EachChosen (items ++ x ∷ []) → x ≡ Leave (length (visits_there visits r 0))
         → IsConstructed symbols rules visits r (items ++ x ∷ [])
     whole-sequence items x row e f each end = record { chosen = each; ended = (items, row, e, ap (λ i. items ++ i ∷ []) (end ∙ ap Leave f)) }
 

@@ -15,7 +15,7 @@ use Rattle.visit_sequences.specs.declared.goals.Goal.{Goal}
 use Rattle.visit_sequences.specs.declared.progress.Progress.{Progress}
 use Rattle.visit_sequences.specs.declared.queue.Waiting.{Waiting}
 use Rattle.visit_sequences.specs.declared.queue.Queue.{Queue}
-use Rattle.visit_sequences.specs.Steps.{HasBit, IsLeastOpen, IsOpen, IsFree, Waits, Wakes, Keeps, AreFree, IsMissing, StandsIn, IsListed, AreListed, Sorts, Grows, IsLeft, AreSeen, HasSeen, HasLeft, AreEvaluated}
+use Rattle.visit_sequences.specs.Steps.{HasBit, IsLeastOpen, IsOpen, IsFree, Waits, Wakes, KeepsWaiting, AreFree, IsMissing, StandsIn, IsListed, AreListed, AreWithin, Sorts, Grows, IsLeft, AreSeen, HasSeen, HasLeft, AreEvaluated}
 use Rattle.visit_sequences.specs.Order.{compare_occurrences}
 use Rattle.visit_sequences.proofs.OrderLemmas.{one-or-apart}
 use Rattle.visit_sequences.proofs.BitsLemmas.{taken-cases}
@@ -52,7 +52,7 @@ waits-here new missing goals goal w items found = (w, found, subst (λ l. Contai
 pub free-more : (p : Progress) (goals : List Goal) (old new : Queue) (g : Goal) → Contains goals g → IsFree p g → ((o : Occ) → HasBit new.free.items o ↔ (HasBit old.free.items o ⊎ (o ≡ g.goal))) → AreFree p goals old → AreFree p goals new
 free-more p goals old new g m free step are o bit = elim ((step o).0 bit) [ inl b ↦ are o b | inr e ↦ (g, m, sym e, free) ]
 
-pub still-stands : (p : Progress) (old new : Queue) (i : ℕ) (g : Goal) → Keeps old new → StandsIn p old i g → StandsIn p new i g
+pub still-stands : (p : Progress) (old new : Queue) (i : ℕ) (g : Goal) → KeepsWaiting old new → StandsIn p old i g → StandsIn p new i g
 still-stands p old new i g keeps (inl b) = inl (keeps.free g.goal b)
 still-stands p old new i g keeps (inr (u, w, b)) = inr (u, keeps.waits u i w, b)
 
@@ -156,14 +156,14 @@ on_ok-then (Ok a) P Q f h = f h
 on_ok-then (Err e) P Q f h = h
 
 -- the goals up to one more place
-pub stands-next : (p : Progress) (goals : List Goal) (old new : Queue) (n : ℕ) → Keeps old new → ((i : ℕ) (g : Goal) → i < n → slice_get goals i ≡ Some g → StandsIn p old i g)
+pub stands-next : (p : Progress) (goals : List Goal) (old new : Queue) (n : ℕ) → KeepsWaiting old new → ((i : ℕ) (g : Goal) → i < n → slice_get goals i ≡ Some g → StandsIn p old i g)
     → ((g : Goal) → slice_get goals n ≡ Some g → StandsIn p new n g) → (i : ℕ) (g : Goal) → i < n + 1 → slice_get goals i ≡ Some g → StandsIn p new i g
 stands-next p goals old new n keeps before here i g l at = elim (cases_lt i n) [
   | inl b ↦ still-stands p old new i g keeps (before i g b at)
   | inr b ↦ (let e : n ≡ i = omega (arith, l, b) in subst (λ k. StandsIn p new k g) e (here g (ap (λ k. slice_get goals k) e ∙ at)))
 ]
 
-pub looked-next : (p : Progress) (goals : List Goal) (old new : Queue) (woken : List ℕ) (n d : ℕ) → n < length woken → Keeps old new
+pub looked-next : (p : Progress) (goals : List Goal) (old new : Queue) (woken : List ℕ) (n d : ℕ) → n < length woken → KeepsWaiting old new
     → ((i : ℕ) (g : Goal) → slice_get goals i ≡ Some g → Contains (take n woken) i → StandsIn p old i g)
     → ((g : Goal) → slice_get goals (get_or woken n d) ≡ Some g → StandsIn p new (get_or woken n d) g) → (i : ℕ) (g : Goal) → slice_get goals i ≡ Some g → Contains (take (n + 1) woken) i → StandsIn p new i g
 looked-next p goals old new woken n d inside keeps before here i g at m = elim (taken-cases woken n d i inside m) [
@@ -175,13 +175,13 @@ pub on_ok-two : {A E : Type 0} (result : Result A E) (P Q R : Type 0) → (P →
 on_ok-two (Ok a) P Q R f p q = f p q
 on_ok-two (Err e) P Q R f p q = p
 
-pub keeps-more : (old new : Queue) (o : Occ) → new.waiting ≡ old.waiting → ((u : Occ) → HasBit new.free.items u ↔ (HasBit old.free.items u ⊎ (u ≡ o))) → Keeps old new
+pub keeps-more : (old new : Queue) (o : Occ) → new.waiting ≡ old.waiting → ((u : Occ) → HasBit new.free.items u ↔ (HasBit old.free.items u ⊎ (u ≡ o))) → KeepsWaiting old new
 keeps-more old new o same step = record {
   free = λ u b. (step u).1 (inl b);
   waits = λ u i m. subst (λ v. WaitsIn v u i) (sym same) m;
 }
 
-pub keeps-same : (old mid new : Queue) → (mid.free ≡ old.free) × (mid.waiting ≡ old.waiting) → Keeps mid new → Keeps old new
+pub keeps-same : (old mid new : Queue) → (mid.free ≡ old.free) × (mid.waiting ≡ old.waiting) → KeepsWaiting mid new → KeepsWaiting old new
 keeps-same old mid new (free, waiting) keeps = record {
   free = λ u b. keeps.free u (subst (λ f. HasBit f.items u) (sym free) b);
   waits = λ u i m. keeps.waits u i (subst (λ v. WaitsIn v u i) (sym waiting) m);
@@ -238,6 +238,7 @@ listed-more p old new goal free left are o (b, n) = elim ((free o).0 b) [ inl c 
 -- the queue is the same but for what it lists
 pub sorts-same : (p : Progress) (goals : List Goal) (old new : Queue) → (new.free ≡ old.free) × (new.waiting ≡ old.waiting) × (new.seen ≡ old.seen) → AreListed p new → Sorts p goals old → Sorts p goals new
 sorts-same p goals old new (free, waiting, seen) listed sorts = record {
+  within = subst (λ v. AreWithin goals (length v.items)) (sym free) sorts.within;
   free = λ o b. sorts.free o (subst (λ f. HasBit f.items o) free b);
   seen = λ i g at u m. sorts.seen i g at u (subst (λ s. Contains (take (slice_index s.items i) g.direct.items) u) seen m);
   stands = λ i g at. stands i g (sorts.stands i g at);

@@ -42,7 +42,7 @@ to-flat_map f (y ∷ xs) zero x a e m = Contains-append_left (f y) (flat_map f x
 to-flat_map f (y ∷ xs) (suc k) x a e m = Contains-append_right (f y) (flat_map f xs) a (to-flat_map f xs k x a e m)
 
 -- elements without repetition
-abbrev Once : List AttrId → Type 0
+abbrev pub Once : List AttrId → Type 0
 Once [] = Unit {0}
 Once (a ∷ rest) = ((b : AttrId) → Contains rest b → a ≡ b → ⊥) × Once rest
 
@@ -92,13 +92,13 @@ module _ (symbols : List FlatSymbol) (rules : List FlatRule) (x : SymId) (row : 
   same-visit : (n : ℕ → ℕ) → ((i j : ℕ) → n i ≡ n j → i ≡ j) → (k l i j : ℕ) (a : AttrId) → i + suc k ≡ length row → j + suc l ≡ length row → IsInClass symbols rules x (n i) a → IsInClass symbols rules x (n j) a → k ≡ l
   same-visit n one k l i j a e f p q = let h = one i j (IsInClass-once symbols rules x (n i) (n j) a p q) in omega (arith, h, e, f)
 
-  synthesized-once : Once (flat_map (λ (c : VisitClass). c.synthesized) row)
+  pub synthesized-once : Once (flat_map (λ (c : VisitClass). c.synthesized) row)
   synthesized-once = once-flat_map (λ (c : VisitClass). c.synthesized) row
       (λ k c e. once-increasing c.synthesized (classes-of symbols rules x row are k c e).2.ascending)
       (λ k l c d a e f m n. let p = classes-of symbols rules x row are k c e in let q = classes-of symbols rules x row are l d f in
       same-visit (λ i. 2 * i) (λ i j h. omega (arith, h)) k l p.0 q.0 a p.1 q.1 ((p.2.same a).0 m) ((q.2.same a).0 n))
 
-  inherited-once : Once (flat_map (λ (c : VisitClass). c.inherited) row)
+  pub inherited-once : Once (flat_map (λ (c : VisitClass). c.inherited) row)
   inherited-once = once-flat_map (λ (c : VisitClass). c.inherited) row
       (λ k c e. once-increasing c.inherited (classes-of symbols rules x row are k c e).3.ascending)
       (λ k l c d a e f m n. let p = classes-of symbols rules x row are k c e in let q = classes-of symbols rules x row are l d f in
@@ -116,7 +116,7 @@ module _ (symbols : List FlatSymbol) (rules : List FlatRule) (x : SymId) (row : 
       go Synthesized h (k, c, e, inl m) = absurd (true≢false (ap is_synthesized (one-kind Synthesized Inherited a h (inherited-kind symbols rules x row are k c a e m))))
       go Inherited h (k, c, e, inr m) = absurd (true≢false (sym (ap is_synthesized (one-kind Inherited Synthesized a h (synthesized-kind symbols rules x row are k c a e m)))))
 
-  row-kind : (kind : Kind) (a : AttrId) → Contains (of_kind kind row) a → HasKind symbols x kind a
+  pub row-kind : (kind : Kind) (a : AttrId) → Contains (of_kind kind row) a → HasKind symbols x kind a
   row-kind Synthesized a m = let p = in-flat_map (λ (c : VisitClass). c.synthesized) row a m in synthesized-kind symbols rules x row are p.0 p.1 a p.2 p.3
   row-kind Inherited a m = let p = in-flat_map (λ (c : VisitClass). c.inherited) row a m in inherited-kind symbols rules x row are p.0 p.1 a p.2 p.3
 

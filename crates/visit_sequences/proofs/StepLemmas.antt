@@ -16,16 +16,16 @@ use Rattle.flat_grammar.specs.declared.plan.PlanItem.TheVariants.{Eval, Visit, L
 use Rattle.flat_grammar.specs.Rules.{symbol_at, symbols_of}
 use Rattle.flat_grammar.specs.SoundPlan.{is_leave, is_visit_of, segment_after, visits_made, IsEvaluated, IsClassAt, IsAtHand}
 use Rattle.visit_sequences.specs.declared.progress.Progress.{Progress}
-use Rattle.visit_sequences.specs.Steps.{row_of, PassesIn, HasBit, Evaluates, Passes, Follows}
+use Rattle.visit_sequences.specs.Steps.{visits_there, PassesIn, HasBit, Evaluates, Passes, Follows}
 use Rattle.visit_sequences.proofs.ProgressLemmas.{evaluated-by, is_evaluation}
 use Rattle.visit_sequences.proofs.Soundness.{leaves-append, visits-append}
 
 module _ (visits : List (List VisitClass)) (r : FlatRule) where
-  pub class-row : (k v : ℕ) (c : VisitClass) → IsClassAt visits r k (suc v) c → slice_get (row_of visits r k) v ≡ Some c
+  pub class-row : (k v : ℕ) (c : VisitClass) → IsClassAt visits r k (suc v) c → slice_get (visits_there visits r k) v ≡ Some c
   class-row k v c (s, row, at, e, f) = ap (λ (o : Option SymId). slice_get (unwrap_or (option_and_then (λ (s : SymId). slice_get visits s.0) o) []) v) at
       ∙ (ap (λ (o : Option (List VisitClass)). slice_get (unwrap_or o []) v) e ∙ f)
 
-  pub row-class : (k v : ℕ) (c : VisitClass) → slice_get (row_of visits r k) v ≡ Some c → IsClassAt visits r k (suc v) c
+  pub row-class : (k v : ℕ) (c : VisitClass) → slice_get (visits_there visits r k) v ≡ Some c → IsClassAt visits r k (suc v) c
   row-class k v c h = go (symbol_at r k) refl h
     where
       go : (o : Option SymId) → symbol_at r k ≡ o → slice_get (unwrap_or (option_and_then (λ (s : SymId). slice_get visits s.0) o) []) v ≡ Some c → IsClassAt visits r k (suc v) c
@@ -105,30 +105,30 @@ module _ (visits : List (List VisitClass)) (r : FlatRule) where
     visit-segment = let a = leaves-append before (Visit k v ∷ []) in let b : count_by is_leave (Visit k v ∷ []) ≡ 0 = refl in omega (arith, a, b)
 
     visit-at_hand : 0 < k → v ≡ suc (visits_made before k) → (p : Occ)
-        → IsAtHand visits r (before ++ Visit k v ∷ []) p ↔ (IsAtHand visits r before p ⊎ ((p.occ ≡ k) × PassesIn (λ (c : VisitClass). c.synthesized) (row_of visits r k) v p.attr))
+        → IsAtHand visits r (before ++ Visit k v ∷ []) p ↔ (IsAtHand visits r before p ⊎ ((p.occ ≡ k) × PassesIn (λ (c : VisitClass). c.synthesized) (visits_there visits r k) v p.attr))
     visit-at_hand pos next p = (forth, back)
       where
-        forth : IsAtHand visits r (before ++ Visit k v ∷ []) p → IsAtHand visits r before p ⊎ ((p.occ ≡ k) × PassesIn (λ (c : VisitClass). c.synthesized) (row_of visits r k) v p.attr)
+        forth : IsAtHand visits r (before ++ Visit k v ∷ []) p → IsAtHand visits r before p ⊎ ((p.occ ≡ k) × PassesIn (λ (c : VisitClass). c.synthesized) (visits_there visits r k) v p.attr)
         forth (inl e) = inl (inl ((visit-evaluated p).0 e))
         forth (inr (inr (z, u, c, l, at, m))) = let h = visit-segment in inl (inr (inr (z, u, c, (omega (arith, l, h)), at, m)))
         forth (inr (inl (z, u, c, l, at, m))) = go (cases_eq k p.occ)
           where
-            here : (u : ℕ) → IsClassAt visits r p.occ u c → k ≡ p.occ → u ≡ v → PassesIn (λ (c : VisitClass). c.synthesized) (row_of visits r k) v p.attr
+            here : (u : ℕ) → IsClassAt visits r p.occ u c → k ≡ p.occ → u ≡ v → PassesIn (λ (c : VisitClass). c.synthesized) (visits_there visits r k) v p.attr
             here zero at' e f = absurd at'
-            here (suc u') at' e f = (u', c, sym f, subst (λ n. slice_get (row_of visits r n) u' ≡ Some c) (sym e) (class-row p.occ u' c at'), m)
+            here (suc u') at' e f = (u', c, sym f, subst (λ n. slice_get (visits_there visits r n) u' ≡ Some c) (sym e) (class-row p.occ u' c at'), m)
 
-            go : (k ≡ p.occ) ⊎ (k ≡ p.occ → ⊥) → IsAtHand visits r before p ⊎ ((p.occ ≡ k) × PassesIn (λ (c : VisitClass). c.synthesized) (row_of visits r k) v p.attr)
+            go : (k ≡ p.occ) ⊎ (k ≡ p.occ → ⊥) → IsAtHand visits r before p ⊎ ((p.occ ≡ k) × PassesIn (λ (c : VisitClass). c.synthesized) (visits_there visits r k) v p.attr)
             go (inr n) = let h = visit-counts_other before k v p.occ n in inl (inr (inl (z, u, c, (omega (arith, l, h)), at, m)))
             go (inl e) = elim (cases_lt u v) [
               | inl i ↦ (let h = ap (λ n. visits_made before n) e in inl (inr (inl (z, u, c, (omega (arith, i, next, h)), at, m))))
               | inr g ↦ (let h = visit-counts_same before k v in let s = ap (λ n. visits_made (before ++ Visit k v ∷ []) n) e in inr (sym e, here u at e (omega (arith, g, l, h, s, next))))
             ]
 
-        back : IsAtHand visits r before p ⊎ ((p.occ ≡ k) × PassesIn (λ (c : VisitClass). c.synthesized) (row_of visits r k) v p.attr) → IsAtHand visits r (before ++ Visit k v ∷ []) p
+        back : IsAtHand visits r before p ⊎ ((p.occ ≡ k) × PassesIn (λ (c : VisitClass). c.synthesized) (visits_there visits r k) v p.attr) → IsAtHand visits r (before ++ Visit k v ∷ []) p
         back (inl h) = at_hand-kept before (Visit k v) p h
         back (inr (e, (u, c, f, at, m))) =
             let h = visit-counts_same before k v in let s = ap (λ n. visits_made (before ++ Visit k v ∷ []) n) e in
-            inr (inl ((omega (arith, e, pos)), suc u, c, (omega (arith, h, s, f, next)), row-class p.occ u c (subst (λ n. slice_get (row_of visits r n) u ≡ Some c) (sym e) at), m))
+            inr (inl ((omega (arith, e, pos)), suc u, c, (omega (arith, h, s, f, next)), row-class p.occ u c (subst (λ n. slice_get (visits_there visits r n) u ≡ Some c) (sym e) at), m))
 
   -- the end of a visit
   module _ (before : List PlanItem) (v : ℕ) where
@@ -142,10 +142,10 @@ module _ (visits : List (List VisitClass)) (r : FlatRule) where
     leave-segment = let a = leaves-append before (Leave v ∷ []) in let b : count_by is_leave (Leave v ∷ []) ≡ 1 = refl in omega (arith, a, b)
 
     leave-at_hand : v ≡ segment_after before → (p : Occ)
-        → IsAtHand visits r (before ++ Leave v ∷ []) p ↔ (IsAtHand visits r before p ⊎ ((p.occ ≡ 0) × PassesIn (λ (c : VisitClass). c.inherited) (row_of visits r 0) (v + 1) p.attr))
+        → IsAtHand visits r (before ++ Leave v ∷ []) p ↔ (IsAtHand visits r before p ⊎ ((p.occ ≡ 0) × PassesIn (λ (c : VisitClass). c.inherited) (visits_there visits r 0) (v + 1) p.attr))
     leave-at_hand own p = (forth, back)
       where
-        forth : IsAtHand visits r (before ++ Leave v ∷ []) p → IsAtHand visits r before p ⊎ ((p.occ ≡ 0) × PassesIn (λ (c : VisitClass). c.inherited) (row_of visits r 0) (v + 1) p.attr)
+        forth : IsAtHand visits r (before ++ Leave v ∷ []) p → IsAtHand visits r before p ⊎ ((p.occ ≡ 0) × PassesIn (λ (c : VisitClass). c.inherited) (visits_there visits r 0) (v + 1) p.attr)
         forth (inl e) = inl (inl ((leave-evaluated p).0 e))
         forth (inr (inl (z, u, c, l, at, m))) = let h = leave-made p.occ in inl (inr (inl (z, u, c, (omega (arith, l, h)), at, m)))
         forth (inr (inr (z, zero, c, l, at, m))) = absurd at
@@ -154,7 +154,7 @@ module _ (visits : List (List VisitClass)) (r : FlatRule) where
           | inr g ↦ inr (z, (u, c, (omega (arith, g, l, h, own)), class-row 0 u c at, m))
         ]
 
-        back : IsAtHand visits r before p ⊎ ((p.occ ≡ 0) × PassesIn (λ (c : VisitClass). c.inherited) (row_of visits r 0) (v + 1) p.attr) → IsAtHand visits r (before ++ Leave v ∷ []) p
+        back : IsAtHand visits r before p ⊎ ((p.occ ≡ 0) × PassesIn (λ (c : VisitClass). c.inherited) (visits_there visits r 0) (v + 1) p.attr) → IsAtHand visits r (before ++ Leave v ∷ []) p
         back (inl h) = at_hand-kept before (Leave v) p h
         back (inr (e, (u, c, f, at, m))) = let h = leave-segment in inr (inr (e, suc u, c, (omega (arith, f, own, h)), row-class 0 u c at, m))
 
@@ -182,8 +182,8 @@ module _ (visits : List (List VisitClass)) (r : FlatRule) where
     }
 
     pub follows-visit : (k v : ℕ) → q.items.items ≡ p.items.items ++ Visit k v ∷ [] → 0 < k → k < length (symbols_of r) → v ≡ suc (visits_made p.items.items k)
-        → ((a : AttrId) → PassesIn (λ (c : VisitClass). c.synthesized) (row_of visits r k) v a → a.0 < 256) → q.evaluated ≡ p.evaluated → q.segment ≡ p.segment → length q.at_hand.items ≡ length p.at_hand.items
-        → q.made.items ≡ slice_set p.made.items k v → Passes (λ (c : VisitClass). c.synthesized) (row_of visits r k) v p.at_hand.items q.at_hand.items k → Follows visits r q
+        → ((a : AttrId) → PassesIn (λ (c : VisitClass). c.synthesized) (visits_there visits r k) v a → a.0 < 256) → q.evaluated ≡ p.evaluated → q.segment ≡ p.segment → length q.at_hand.items ≡ length p.at_hand.items
+        → q.made.items ≡ slice_set p.made.items k v → Passes (λ (c : VisitClass). c.synthesized) (visits_there visits r k) v p.at_hand.items q.at_hand.items k → Follows visits r q
     follows-visit k v items pos inside next few evaluated segment each made at_hand = record {
       evaluated = λ u. (
         (λ bit. subst (λ l. IsEvaluated l u) (sym items) ((visit-evaluated Old k v u).1 ((follows.evaluated u).0 (subst (λ s. HasBit s.items u) evaluated bit)))),
@@ -209,8 +209,8 @@ module _ (visits : List (List VisitClass)) (r : FlatRule) where
             go (inr n) = get_or-set_other p.made.items k j v 0 (λ e. n (sym e)) ∙ (follows.made j h ∙ sym (visit-counts_other p.items.items k v j n))
 
     pub follows-leave : (v : ℕ) → q.items.items ≡ p.items.items ++ Leave v ∷ [] → v ≡ segment_after p.items.items
-        → ((a : AttrId) → PassesIn (λ (c : VisitClass). c.inherited) (row_of visits r 0) (v + 1) a → a.0 < 256) → q.evaluated ≡ p.evaluated → q.made ≡ p.made → length q.at_hand.items ≡ length p.at_hand.items
-        → q.segment ≡ v + 1 → Passes (λ (c : VisitClass). c.inherited) (row_of visits r 0) (v + 1) p.at_hand.items q.at_hand.items 0 → Follows visits r q
+        → ((a : AttrId) → PassesIn (λ (c : VisitClass). c.inherited) (visits_there visits r 0) (v + 1) a → a.0 < 256) → q.evaluated ≡ p.evaluated → q.made ≡ p.made → length q.at_hand.items ≡ length p.at_hand.items
+        → q.segment ≡ v + 1 → Passes (λ (c : VisitClass). c.inherited) (visits_there visits r 0) (v + 1) p.at_hand.items q.at_hand.items 0 → Follows visits r q
     follows-leave v items own few evaluated made each segment at_hand = record {
       evaluated = λ u. (
         (λ bit. subst (λ l. IsEvaluated l u) (sym items) ((leave-evaluated Old v u).1 ((follows.evaluated u).0 (subst (λ s. HasBit s.items u) evaluated bit)))),

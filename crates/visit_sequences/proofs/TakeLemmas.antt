@@ -22,7 +22,7 @@ use Rattle.flat_grammar.specs.Construction.{IsChosen, evaluation}
 use Rattle.flat_grammar.proofs.Lists.{contains-nil}
 use Rattle.visit_sequences.specs.declared.goals.Goal.{Goal}
 use Rattle.visit_sequences.specs.declared.progress.Progress.{Progress}
-use Rattle.visit_sequences.specs.Steps.{row_of, PassesIn, HasBit, HasBitsOf, Adds, Evaluates, Passes, Follows}
+use Rattle.visit_sequences.specs.Steps.{visits_there, PassesIn, HasBit, HasBitsOf, Adds, Evaluates, Passes, Follows}
 use Rattle.flat_grammar.proofs.BitsLemmas.{empty-set}
 use Rattle.visit_sequences.proofs.Classes.{inherited-kind, synthesized-kind, some-is}
 use Rattle.visit_sequences.proofs.Occurrences.{symbol-there, goal-attribute}
@@ -36,12 +36,12 @@ chosen-eval symbols rules visits r before o (evaluation (left, h) least) = left.
 
 module _ (symbols : List FlatSymbol) (rules : List FlatRule) (shapes : List Shape) (root : SymId) (w : IsWellFormed symbols rules shapes root)
     (visits : List (List VisitClass)) (all : AreAllVisits symbols rules visits) (r : FlatRule) (among : Contains rules r) where
-  few-synthesized : (k v : ℕ) (a : AttrId) → PassesIn (λ (c : VisitClass). c.synthesized) (row_of visits r k) v a → a.0 < 256
+  few-synthesized : (k v : ℕ) (a : AttrId) → PassesIn (λ (c : VisitClass). c.synthesized) (visits_there visits r k) v a → a.0 < 256
   few-synthesized k v a (u, c, e, f, m) =
       let p = row-at symbols rules shapes root w visits all r among k u c (row-class visits r k u c f) in
       let h = synthesized-kind symbols rules p.0 p.1 p.5 u c a p.4 m in few symbols rules shapes root w p.0 a (some-is _ h.0 h.1)
 
-  few-inherited : (k v : ℕ) (a : AttrId) → PassesIn (λ (c : VisitClass). c.inherited) (row_of visits r k) v a → a.0 < 256
+  few-inherited : (k v : ℕ) (a : AttrId) → PassesIn (λ (c : VisitClass). c.inherited) (visits_there visits r k) v a → a.0 < 256
   few-inherited k v a (u, c, e, f, m) =
       let p = row-at symbols rules shapes root w visits all r among k u c (row-class visits r k u c f) in
       let h = inherited-kind symbols rules p.0 p.1 p.5 u c a p.4 m in few symbols rules shapes root w p.0 a (some-is _ h.0 h.1)
@@ -59,13 +59,13 @@ module _ (symbols : List FlatSymbol) (rules : List FlatRule) (shapes : List Shap
         follows-eval visits r p q follows o items (slice_get_within (symbols_of r) o.occ s.0 s.1) (few-at symbols rules shapes root w r o some) made segment each each' evaluated at_hand
 
     pub taken-visit : (k v : ℕ) → IsChosen symbols rules visits r p.items.items (Visit k v) → q.items.items ≡ p.items.items ++ Visit k v ∷ [] → q.evaluated ≡ p.evaluated → q.segment ≡ p.segment → length q.at_hand.items ≡ length p.at_hand.items
-        → q.made.items ≡ Rattle.std.specs.Prelude.slice_set p.made.items k v → Passes (λ (c : VisitClass). c.synthesized) (row_of visits r k) v p.at_hand.items q.at_hand.items k → Follows visits r q
+        → q.made.items ≡ Rattle.std.specs.Prelude.slice_set p.made.items k v → Passes (λ (c : VisitClass). c.synthesized) (visits_there visits r k) v p.at_hand.items q.at_hand.items k → Follows visits r q
     taken-visit k v chosen items evaluated segment each made at_hand =
         let n = visit-next symbols rules visits r p.items.items k v chosen in
         follows-visit visits r p q follows k v items n.1.0 (class-inside k v n.0 n.1.2) n.1.1 (few-synthesized k v) evaluated segment each made at_hand
 
     pub taken-leave : (v : ℕ) → IsChosen symbols rules visits r p.items.items (Leave v) → q.items.items ≡ p.items.items ++ Leave v ∷ [] → q.evaluated ≡ p.evaluated → q.made ≡ p.made → length q.at_hand.items ≡ length p.at_hand.items
-        → q.segment ≡ v + 1 → Passes (λ (c : VisitClass). c.inherited) (row_of visits r 0) (v + 1) p.at_hand.items q.at_hand.items 0 → Follows visits r q
+        → q.segment ≡ v + 1 → Passes (λ (c : VisitClass). c.inherited) (visits_there visits r 0) (v + 1) p.at_hand.items q.at_hand.items 0 → Follows visits r q
     taken-leave v chosen items evaluated made each segment at_hand =
         follows-leave visits r p q follows v items (leave-is symbols rules visits r p.items.items v chosen) (few-inherited 0 (v + 1)) evaluated made each segment at_hand
 
@@ -77,7 +77,7 @@ module _ (symbols : List FlatSymbol) (rules : List FlatRule) (shapes : List Shap
 
   -- before the first item
   pub follows-start : (p : Progress) (n : ℕ) (more : ℕ) → n ≡ length (symbols_of r) → p.items.items ≡ [] → p.evaluated.items ≡ replicate n 0 → p.made.items ≡ replicate n 0 → p.segment ≡ 1 → length p.at_hand.items ≡ n
-      → Adds (replicate n 0) p.at_hand.items 0 more → HasBitsOf (λ (c : VisitClass). c.inherited) (row_of visits r 0) 1 more → Follows visits r p
+      → Adds (replicate n 0) p.at_hand.items 0 more → HasBitsOf (λ (c : VisitClass). c.inherited) (visits_there visits r 0) 1 more → Follows visits r p
   follows-start p n more count items evaluated made segment each added has = record {
     evaluated = λ o. (
       (λ bit. absurd (zero-sets n o.occ o.attr.0 (subst (λ (l : List ℕ). HasBit l o) evaluated bit))),
@@ -98,7 +98,7 @@ module _ (symbols : List FlatSymbol) (rules : List FlatRule) (shapes : List Shap
           go (inl h) = absurd (zero-sets n o.occ o.attr.0 h)
           go (inr (e, l, b)) = let h = (has o.attr).0 b in give h.1
             where
-              give : PassesIn (λ (c : VisitClass). c.inherited) (row_of visits r 0) 1 o.attr → IsAtHand visits r [] o
+              give : PassesIn (λ (c : VisitClass). c.inherited) (visits_there visits r 0) 1 o.attr → IsAtHand visits r [] o
               give (v, c, f, at, m) = inr (inr (e, suc v, c, (omega (arith, f)), row-class visits r 0 v c at, m))
 
       back : (o : Occ) → IsAtHand visits r [] o → HasBit p.at_hand.items o
@@ -108,7 +108,7 @@ module _ (symbols : List FlatSymbol) (rules : List FlatRule) (shapes : List Shap
       back o (inr (inr (z, zero, c, l, at, m))) = absurd at
       back o (inr (inr (z, suc v, c, l, at, m))) =
           let one : 1 ≡ suc v = omega (arith, l) in
-          let passes : PassesIn (λ (c : VisitClass). c.inherited) (row_of visits r 0) 1 o.attr = (v, c, one, class-row visits r 0 v c at, m) in
+          let passes : PassesIn (λ (c : VisitClass). c.inherited) (visits_there visits r 0) 1 o.attr = (v, c, one, class-row visits r 0 v c at, m) in
           let e = length-replicate {A = ℕ} n 0 in
           (added o.occ o.attr.0).1 (inr (z, (omega (arith, count, e)), (has o.attr).1 (few-inherited 0 1 o.attr passes, passes)))
 

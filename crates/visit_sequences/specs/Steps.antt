@@ -25,8 +25,8 @@ use Rattle.visit_sequences.specs.declared.rest.Rest.{Rest}
 use Rattle.visit_sequences.specs.Order.{compare_occurrences}
 
 -- the visits of the symbol at an occurrence, none where there is no symbol
-abbrev pub row_of : List (List VisitClass) → FlatRule → ℕ → List VisitClass
-row_of visits r k = unwrap_or (option_and_then (λ (s : SymId). slice_get visits s.0) (symbol_at r k)) []
+abbrev pub visits_there : List (List VisitClass) → FlatRule → ℕ → List VisitClass
+visits_there visits r k = unwrap_or (option_and_then (λ (s : SymId). slice_get visits s.0) (symbol_at r k)) []
 
 -- no visit before this one has the attribute
 abbrev pub LacksBefore : List VisitClass → ℕ → AttrId → Type 0
@@ -126,11 +126,11 @@ IsOfUseFrom row from = (w : ℕ) × (c : VisitClass) × (from ≤ w) × (slice_g
 module _ (visits : List (List VisitClass)) (r : FlatRule) (p : Progress) where
   -- the next visit of the child is ready and not idle
   abbrev pub IsReadyAt : ℕ → Type 0
-  IsReadyAt k = (c : VisitClass) × (slice_get (row_of visits r k) (slice_index p.made.items k) ≡ Some c) × HasAll p k c.inherited × IsOfUseFrom (row_of visits r k) (slice_index p.made.items k)
+  IsReadyAt k = (c : VisitClass) × (slice_get (visits_there visits r k) (slice_index p.made.items k) ≡ Some c) × HasAll p k c.inherited × IsOfUseFrom (visits_there visits r k) (slice_index p.made.items k)
 
   -- the child has a visit left
   abbrev pub IsNextAt : ℕ → Type 0
-  IsNextAt k = slice_index p.made.items k < length (row_of visits r k)
+  IsNextAt k = slice_index p.made.items k < length (visits_there visits r k)
 
   -- none of so many children, from the first on, has a visit left
   abbrev pub AreOver : ℕ → Type 0
@@ -153,7 +153,7 @@ module _ (visits : List (List VisitClass)) (r : FlatRule) (p : Progress) where
 
   -- the present visit still owes something
   abbrev pub Owes : List Goal → Type 0
-  Owes goals = OwesClass (row_of visits r 0) p ⊎ ((p.segment ≡ length (row_of visits r 0)) × HasLeft goals p)
+  Owes goals = OwesClass (visits_there visits r 0) p ⊎ ((p.segment ≡ length (visits_there visits r 0)) × HasLeft goals p)
 
 -- the least child of which this holds
 abbrev pub IsLeastChild : FlatRule → (ℕ → Type 0) → ℕ → Type 0
@@ -180,7 +180,7 @@ abbrev pub Waits : Queue → Occ → ℕ → Type 0
 Waits q u i = (w : Waiting) × (get compare_occurrences q.waiting u ≡ Some w) × Contains w.goals.items i
 
 -- all that is free or waits still does
-pub record Keeps (old new : Queue) : Type 0 where
+pub record KeepsWaiting (old new : Queue) : Type 0 where
   pub free : (o : Occ) → HasBit old.free.items o → HasBit new.free.items o
   pub waits : (u : Occ) (i : ℕ) → Waits old u i → Waits new u i
 
@@ -214,8 +214,13 @@ IsLeft p q o = HasBit q.free.items o × ¬ HasBit p.evaluated.items o
 abbrev pub AreListed : Progress → Queue → Type 0
 AreListed p q = (o : Occ) → IsLeft p q o → IsListed q.left o.occ
 
+-- there is a set for the occurrence of each goal, and its attribute may be in it
+abbrev pub AreWithin : List Goal → ℕ → Type 0
+AreWithin goals n = (g : Goal) → Contains goals g → (g.goal.occ < n) × (g.goal.attr.0 < 256)
+
 -- the queue says of each goal how it stands, and where goals are left
 pub record Sorts (p : Progress) (goals : List Goal) (q : Queue) : Type 0 where
+  pub within : AreWithin goals (length q.free.items)
   pub free : AreFree p goals q
   pub seen : HasSeen p goals q
   pub stands : (i : ℕ) (g : Goal) → slice_get goals i ≡ Some g → StandsIn p q i g
@@ -233,13 +238,13 @@ pub record IsSameBut (old new : Progress) (k : ℕ) : Type 0 where
   pub made : (j : ℕ) → ¬ (j ≡ k) → slice_index new.made.items j ≡ slice_index old.made.items j
 
 -- the occurrence that an item is about
-abbrev pub place_of : PlanItem → ℕ
-place_of (Eval o) = o.occ
-place_of (Visit k v) = k
-place_of (Leave v) = 0
+abbrev pub item_occurrence : PlanItem → ℕ
+item_occurrence (Eval o) = o.occ
+item_occurrence (Visit k v) = k
+item_occurrence (Leave v) = 0
 
 -- what an item gives: the goal, what passes up from the child, or what passes down in the next visit of the left side
-abbrev pub Gives : List (List VisitClass) → FlatRule → PlanItem → Occ → Type 0
-Gives visits r (Eval o) u = u ≡ o
-Gives visits r (Visit k v) u = (u.occ ≡ k) × PassesIn (λ c. c.synthesized) (row_of visits r k) v u.attr
-Gives visits r (Leave v) u = (u.occ ≡ 0) × PassesIn (λ c. c.inherited) (row_of visits r 0) (v + 1) u.attr
+abbrev pub HandsOn : List (List VisitClass) → FlatRule → PlanItem → Occ → Type 0
+HandsOn visits r (Eval o) u = u ≡ o
+HandsOn visits r (Visit k v) u = (u.occ ≡ k) × PassesIn (λ c. c.synthesized) (visits_there visits r k) v u.attr
+HandsOn visits r (Leave v) u = (u.occ ≡ 0) × PassesIn (λ c. c.inherited) (visits_there visits r 0) (v + 1) u.attr

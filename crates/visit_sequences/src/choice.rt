@@ -1,12 +1,12 @@
 //! The item that the construction chooses next.
-ghost use Rattle.std.specs.Prelude.{◌≡◌, ◌↔◌, ◌⊎◌, ◌+◌, ◌^◌, ◌<◌, ◌≤◌, suc, ℕ, All, Contains, length, IsBitSet, IsTrue, IfOk, MatchOption, Some, slice_get, slice_index};
+ghost use Rattle.std.specs.Prelude.{◌≡◌, ◌↔◌, ◌⊎◌, ◌+◌, ◌^◌, ◌<◌, ◌≤◌, suc, ℕ, All, Contains, length, IsBitSet, IsTrue, MatchOption, Some, slice_get, slice_index};
 ghost use Rattle.flat_grammar.specs.declared.flat.Occ.{Occ as Occurrence};
 ghost use Rattle.flat_grammar.specs.Construction.{IsChosen};
 ghost use Rattle.flat_grammar.specs.Cycles.{IsAtMost};
 ghost use Rattle.flat_grammar.specs.Partition.{AreAllVisits};
-ghost use Rattle.flat_grammar.specs.declared.plan.PlanItem.TheVariants.{Visit};
+ghost use Rattle.flat_grammar.specs.declared.plan.PlanItem.TheVariants.{Leave, Visit};
 ghost use Rattle.visit_sequences.specs.declared.goals.Goal.{Goal as Waiting};
-ghost use Rattle.visit_sequences.specs.Steps.{AreEvaluated, AreGoals, AreListed, AreListedChildren, AreOver, Follows, HasBit, HasLeft, IsLeastChild, IsLeastOpen, IsLeft, IsNextAt, IsNoChild, IsOfUseFrom, IsReadyAt, IsRest, Owes, OwesClass, Sorts, Stops, row_of};
+ghost use Rattle.visit_sequences.specs.Steps.{AreEvaluated, AreGoals, AreListed, AreListedChildren, AreOver, Follows, HasBit, HasLeft, IsLeastChild, IsLeastOpen, IsLeft, IsNextAt, IsNoChild, IsOfUseFrom, IsReadyAt, IsRest, Owes, OwesClass, Sorts, Stops, visits_there};
 
 use crate::bits::least_new;
 use crate::goals::Goal;
@@ -14,20 +14,9 @@ use crate::listed::Listed;
 use crate::progress::Progress;
 use crate::queue::Queue;
 use crate::rest::Rest;
-use crate::rows::row_at;
+use crate::rows::visits_at;
 use flat_grammar::{Bits, Flat, FlatRule, Occ, Parts, PlanItem, VisitClass};
-use lido_base::{List, Memory};
-
-/// A visit's number, if it is one of 16 bits. A symbol has no more visits than attributes, and one at least.
-fn number(visit: usize) -> Result<u16, Memory>
-    ensures { IfOk result (λ n. n ≡ visit) }
-{
-    if visit < 65_536 {
-        Ok(visit as u16)
-    } else {
-        Err(Memory)
-    }
-}
+use lido_base::List;
 
 /// Whether a visit from this one on, counted from 0, synthesizes something.
 fn is_of_use(row: &[VisitClass], from: usize) -> bool
@@ -121,7 +110,7 @@ impl Progress {
         requires stops { (g : Waiting) → slice_get goals.now done ≡ Some g → ¬ HasBit self.now.evaluated.items g.goal }
         ensures { IsTrue result ↔ Owes visits.now rule.now self.now goals.now }
     {
-        let row = row_at(visits, rule, 0);
+        let row = visits_at(visits, rule, 0);
         self.owes_class(row) || self.segment == row.len() && self.has_left(goals, done)
     }
 
@@ -129,7 +118,7 @@ impl Progress {
     fn is_ready_visit(&self, visits: &[List<VisitClass>], rule: &FlatRule, occ: u16) -> bool
         ensures { IsTrue result ↔ IsReadyAt visits.now rule.now self.now occ }
     {
-        let row = row_at(visits, rule, occ);
+        let row = visits_at(visits, rule, occ);
         let made = self.visits_made(occ);
         match row.get(made) {
             Some(class) => self.has_all(occ, class.inherited.as_slice()) && is_of_use(row, made),
@@ -197,27 +186,34 @@ impl Progress {
         requires few { length rule.now.right < 2 ^ 16 }
         requires over { AreOver visits.now rule.now self.now over }
         requires stops { over < length rule.now.right → IsNextAt visits.now rule.now self.now (over + 1) }
-        ensures { MatchOption result (self.now.segment ≡ length (row_of visits.now rule.now 0) → IsNoChild rule.now (IsNextAt visits.now rule.now self.now))
-            (λ k. (self.now.segment ≡ length (row_of visits.now rule.now 0)) × IsLeastChild rule.now (IsNextAt visits.now rule.now self.now) k) }
+        ensures { MatchOption result (self.now.segment ≡ length (visits_there visits.now rule.now 0) → IsNoChild rule.now (IsNextAt visits.now rule.now self.now))
+            (λ k. (self.now.segment ≡ length (visits_there visits.now rule.now 0)) × IsLeastChild rule.now (IsNextAt visits.now rule.now self.now) k) }
     {
-        if self.segment != row_at(visits, rule, 0).len() {
+        if self.segment != visits_at(visits, rule, 0).len() {
             return None;
         }
         self.next_child(visits, rule, over)
     }
 
     /// The next visit of the child.
-    fn next_visit(&self, occ: u16) -> Result<PlanItem, Memory>
-        ensures { IfOk result (λ item. item ≡ Visit occ (suc (slice_index self.now.made.items occ))) }
+    fn next_visit(&self, occ: u16) -> PlanItem
+        requires { slice_index self.now.made.items occ < 2 ^ 15 }
+        ensures { result ≡ Visit occ (suc (slice_index self.now.made.items occ)) }
     {
-        let made = number(self.visits_made(occ))?;
-        if made == 65_535 {
-            return Err(Memory);
-        }
-        Ok(PlanItem::Visit {
+        PlanItem::Visit {
             occ,
-            visit: made + 1,
-        })
+            visit: self.visits_made(occ) as u16 + 1,
+        }
+    }
+
+    /// The end of the present visit.
+    fn end_of_visit(&self) -> PlanItem
+        requires { self.now.segment < 2 ^ 16 }
+        ensures { result ≡ Leave self.now.segment }
+    {
+        PlanItem::Leave {
+            visit: self.segment as u16,
+        }
     }
 
     /// The item that the construction chooses, where this evaluation is the least that is ready.
@@ -229,7 +225,7 @@ impl Progress {
         goals: &[Goal],
         ready: Option<Occ>,
         rest: &mut Rest,
-    ) -> Result<PlanItem, Memory>
+    ) -> PlanItem
         requires visits { AreAllVisits flat.now.symbols flat.now.rules parts.now.visits }
         requires rule { Contains flat.now.rules rule.now }
         requires goals { AreGoals flat.now.symbols flat.now.rules rule.now goals.now }
@@ -237,12 +233,13 @@ impl Progress {
         requires ready { IsLeastOpen self.now goals.now ready }
         requires rest { IsRest parts.now.visits rule.now self.now goals.now rest.old }
         requires stops { Stops parts.now.visits rule.now self.now goals.now rest.old }
-        ensures chosen { IfOk result (IsChosen flat.now.symbols flat.now.rules parts.now.visits rule.now self.now.items.items) }
+        requires within { self.now.segment ≤ length (visits_there parts.now.visits rule.now 0) }
+        ensures chosen { IsChosen flat.now.symbols flat.now.rules parts.now.visits rule.now self.now.items.items result }
         ensures rest { IsRest parts.now.visits rule.now self.now goals.now rest.new }
     {
         let visits = parts.visits.as_slice();
         if let Some(goal) = ready {
-            return Ok(PlanItem::Eval(goal));
+            return PlanItem::Eval(goal);
         }
         if let Some(occ) = self.owed_child(visits, rule, goals, rest) {
             return self.next_visit(occ);
@@ -250,8 +247,6 @@ impl Progress {
         if let Some(occ) = self.last_child(visits, rule, rest.children) {
             return self.next_visit(occ);
         }
-        Ok(PlanItem::Leave {
-            visit: number(self.segment)?,
-        })
+        self.end_of_visit()
     }
 }

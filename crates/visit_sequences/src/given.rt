@@ -1,10 +1,10 @@
 //! What the items of a sequence give.
 ghost use Rattle.std.specs.Prelude.{◌≡◌, ◌+◌, Contains, IfOk};
 ghost use Rattle.flat_grammar.specs.declared.flat.Occ.{Occ as Occurrence};
-ghost use Rattle.visit_sequences.specs.Steps.{Gives};
+ghost use Rattle.visit_sequences.specs.Steps.{HandsOn};
 
 use crate::progress::{inherited_in, synthesized_in};
-use crate::rows::row_at;
+use crate::rows::visits_at;
 use flat_grammar::{FlatRule, Occ, PlanItem, VisitClass};
 use lido_base::{AttrId, List, Memory};
 use std::alloc::Global;
@@ -27,16 +27,16 @@ pub fn given(
     rule: &FlatRule,
     item: PlanItem,
 ) -> Result<Vec<Occ>, Memory>
-    ensures { IfOk result (λ given. (u : Occurrence) → Gives visits.now rule.now item u → Contains given.items u) }
+    ensures { IfOk result (λ given. (u : Occurrence) → HandsOn visits.now rule.now item u → Contains given.items u) }
 {
     match item {
         PlanItem::Eval(goal) => all_at(alloc, goal.occ, &[goal.attr]),
         PlanItem::Visit { occ, visit } => {
-            let row = row_at(visits, rule, occ);
+            let row = visits_at(visits, rule, occ);
             all_at(alloc, occ, synthesized_in(row, visit as usize))
         }
         PlanItem::Leave { visit } => {
-            let row = row_at(visits, rule, 0);
+            let row = visits_at(visits, rule, 0);
             all_at(alloc, 0, inherited_in(row, visit as usize + 1))
         }
     }

@@ -7,8 +7,10 @@ ghost use Rattle.flat_grammar.specs.WellFormed.{attribute_of};
 ghost use Rattle.visit_sequences.specs.Steps.{IsGoal, AreGoals, IsBefore, StandsBefore};
 
 use crate::bits::{members, with_small};
-use crate::rows::{row_at, symbol_at};
-use flat_grammar::{Bits, Deps, Flat, FlatComp, FlatRule, Occ, Parts, VisitClass, dependencies_of};
+use crate::rows::visits_at;
+use flat_grammar::{
+    Bits, Deps, Flat, FlatComp, FlatRule, Occ, Parts, VisitClass, dependencies_of, symbol_at,
+};
 use lido_base::{AttrId, Memory};
 use std::alloc::Global;
 
@@ -75,7 +77,10 @@ fn same_of(flat: &Flat, deps: &Deps, parts: &Parts, rule: &FlatRule, goal: Occ) 
     let Some(symbol) = symbol_at(rule, goal.occ) else {
         return Bits::empty();
     };
-    let before = earlier(row_at(parts.visits.as_slice(), rule, goal.occ), goal.attr);
+    let before = earlier(
+        visits_at(parts.visits.as_slice(), rule, goal.occ),
+        goal.attr,
+    );
     match deps.ids.as_slice().get(symbol.0 as usize) {
         Some(rows) => before.union(induced(rows.as_slice(), goal.attr)),
         None => before,

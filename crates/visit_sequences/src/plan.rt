@@ -6,14 +6,14 @@ ghost use Rattle.flat_grammar.specs.Dependencies.{AreInducedRows};
 ghost use Rattle.flat_grammar.specs.Partition.{AreAllVisits};
 ghost use Rattle.flat_grammar.specs.SoundPlan.{IsSound};
 ghost use Rattle.flat_grammar.specs.declared.plan.PlanItem.TheVariants.{Leave};
-ghost use Rattle.visit_sequences.specs.Steps.{place_of};
+ghost use Rattle.visit_sequences.specs.Steps.{item_occurrence};
 
 use crate::given::given;
 use crate::goals::goals;
 use crate::progress::Progress;
 use crate::queue::Queue;
 use crate::rest::Rest;
-use crate::rows::row_at;
+use crate::rows::visits_at;
 use flat_grammar::{Deps, Flat, FlatRule, Parts, Plan, PlanItem, VisitClass};
 use lido_base::{List, Memory};
 use std::alloc::Global;
@@ -30,7 +30,7 @@ fn is_end(item: PlanItem, visit: usize) -> bool
 
 /// The occurrence that the item is about.
 fn place(item: PlanItem) -> u16
-    ensures { result ≡ place_of item }
+    ensures { result ≡ item_occurrence item }
 {
     match item {
         PlanItem::Eval(goal) => goal.occ,
@@ -53,14 +53,14 @@ fn sequence(
     ensures { IfOk result (IsConstructed flat.now.symbols flat.now.rules parts.now.visits rule.now) }
 {
     let goals = goals(alloc, flat, deps, parts, rule)?;
-    let last = row_at(parts.visits.as_slice(), rule, 0).len();
+    let last = visits_at(parts.visits.as_slice(), rule, 0).len();
     let mut progress = Progress::start(alloc, flat, parts, rule)?;
     let mut queue = Queue::start(alloc, &progress, &goals)?;
     let mut rest = Rest::start(alloc, rule)?;
     loop {
         rest.pass(&progress, parts.visits.as_slice(), rule, &goals);
         let ready = progress.least_ready(&goals, &mut queue);
-        let item = progress.choose(flat, parts, rule, &goals, ready, &mut rest)?;
+        let item = progress.choose(flat, parts, rule, &goals, ready, &mut rest);
         progress.take(flat, parts, rule, item)?;
         if is_end(item, last) {
             return Ok(List::from_vec(progress.into_items()));

@@ -3,10 +3,10 @@ ghost use Rattle.std.specs.Prelude.{◌≡◌, ◌↔◌, ◌⊎◌, ◌++◌, �
 ghost use Rattle.lido_base.specs.declared.ids.AttrId.{AttrId as Attribute};
 ghost use Rattle.flat_grammar.specs.Construction.{IsChosen};
 ghost use Rattle.flat_grammar.specs.Partition.{AreAllVisits};
-ghost use Rattle.visit_sequences.specs.Steps.{place_of, Adds, Evaluates, Follows, Gives, Grows, HasBit, HasBitsOf, IsSameBut, Passes, PassesIn, row_of};
+ghost use Rattle.visit_sequences.specs.Steps.{item_occurrence, Adds, Evaluates, Follows, HandsOn, Grows, HasBit, HasBitsOf, IsSameBut, Passes, PassesIn, visits_there};
 
 use crate::bits::{members, with_small};
-use crate::rows::row_at;
+use crate::rows::visits_at;
 use flat_grammar::{Bits, Flat, FlatRule, Occ, Parts, PlanItem, VisitClass};
 use lido_base::{AttrId, List, Memory};
 use std::alloc::{AllocError, Global};
@@ -107,7 +107,7 @@ impl Progress {
         add(
             &mut at_hand,
             0,
-            inherited(row_at(parts.visits.as_slice(), rule, 0), 1),
+            inherited(visits_at(parts.visits.as_slice(), rule, 0), 1),
         );
         Ok(Progress {
             items: Vec::new(alloc),
@@ -195,10 +195,10 @@ impl Progress {
         ensures same { (self.new.items ≡ self.old.items) × (self.new.evaluated ≡ self.old.evaluated) × (self.new.segment ≡ self.old.segment) }
         ensures each { length self.new.at_hand.items ≡ length self.old.at_hand.items }
         ensures made { self.new.made.items ≡ slice_set self.old.made.items occ visit }
-        ensures at_hand { Passes (λ c. c.synthesized) (row_of visits.now rule.now occ) visit self.old.at_hand.items self.new.at_hand.items occ }
+        ensures at_hand { Passes (λ c. c.synthesized) (visits_there visits.now rule.now occ) visit self.old.at_hand.items self.new.at_hand.items occ }
     {
         self.note(occ, visit as usize);
-        let more = synthesized(row_at(visits, rule, occ), visit as usize);
+        let more = synthesized(visits_at(visits, rule, occ), visit as usize);
         add(&mut self.at_hand, occ as usize, more);
     }
 
@@ -207,10 +207,10 @@ impl Progress {
         ensures same { (self.new.items ≡ self.old.items) × (self.new.evaluated ≡ self.old.evaluated) × (self.new.made ≡ self.old.made) }
         ensures each { length self.new.at_hand.items ≡ length self.old.at_hand.items }
         ensures segment { self.new.segment ≡ visit + 1 }
-        ensures at_hand { Passes (λ c. c.inherited) (row_of visits.now rule.now 0) (visit + 1) self.old.at_hand.items self.new.at_hand.items 0 }
+        ensures at_hand { Passes (λ c. c.inherited) (visits_there visits.now rule.now 0) (visit + 1) self.old.at_hand.items self.new.at_hand.items 0 }
     {
         self.segment = visit as usize + 1;
-        let more = inherited(row_at(visits, rule, 0), visit as usize + 1);
+        let more = inherited(visits_at(visits, rule, 0), visit as usize + 1);
         add(&mut self.at_hand, 0, more);
     }
 
@@ -228,8 +228,8 @@ impl Progress {
         requires chosen { IsChosen flat.now.symbols flat.now.rules parts.now.visits rule.now self.old.items.items item }
         ensures items { OnOk result (self.new.items.items ≡ self.old.items.items ++ item ∷ []) }
         ensures follows { OnOk result (Follows parts.now.visits rule.now self.new) }
-        ensures grows { OnOk result (Grows self.old self.new (Gives parts.now.visits rule.now item)) }
-        ensures others { OnOk result (IsSameBut self.old self.new (place_of item)) }
+        ensures grows { OnOk result (Grows self.old self.new (HandsOn parts.now.visits rule.now item)) }
+        ensures others { OnOk result (IsSameBut self.old self.new (item_occurrence item)) }
     {
         self.items.push(item)?;
         let visits = parts.visits.as_slice();

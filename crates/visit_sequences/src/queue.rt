@@ -4,7 +4,7 @@ ghost use Rattle.flat_grammar.specs.declared.flat.Occ.{Occ as Occurrence};
 ghost use Rattle.flat_grammar.specs.Cycles.{IsAtMost};
 ghost use Rattle.visit_sequences.specs.declared.goals.Goal.{Goal as Waiter};
 ghost use Rattle.visit_sequences.specs.declared.progress.Progress.{Progress as Before};
-ghost use Rattle.visit_sequences.specs.Steps.{AreFree, AreListed, AreSeen, Grows, HasBit, HasSeen, IsFree, IsListed, IsMissing, Keeps, Sorts, StandsIn, Waits, Wakes};
+ghost use Rattle.visit_sequences.specs.Steps.{AreFree, AreListed, AreSeen, AreWithin, Grows, HasBit, HasSeen, IsFree, IsListed, IsMissing, KeepsWaiting, Sorts, StandsIn, Waits, Wakes};
 
 use crate::bits::least_new;
 use crate::goals::Goal;
@@ -51,7 +51,7 @@ impl Queue {
 
     /// The goal waits for this.
     fn wait(&mut self, alloc: Global, missing: Occ, goal: usize) -> Result<(), Memory>
-        ensures keeps { OnOk result (Keeps self.old self.new) }
+        ensures keeps { OnOk result (KeepsWaiting self.old self.new) }
         ensures free { OnOk result (self.new.free ≡ self.old.free) }
         ensures seen { OnOk result (self.new.seen ≡ self.old.seen) }
         ensures left { OnOk result (self.new.left ≡ self.old.left) }
@@ -63,24 +63,21 @@ impl Queue {
         Ok(())
     }
 
-    /// The goal has all that it waits for. There is a set for each occurrence, and a symbol has no more than 256 attributes.
+    /// The goal has all that it waits for.
     fn set_free(&mut self, goal: Occ) -> Result<(), Memory>
+        requires occurrence { goal.occ < length self.old.free.items }
+        requires attribute { goal.attr.0 < 256 }
         ensures waiting { OnOk result (self.new.waiting ≡ self.old.waiting) }
         ensures seen { OnOk result (self.new.seen ≡ self.old.seen) }
         ensures free { OnOk result ((o : Occurrence) → HasBit self.new.free.items o ↔ (HasBit self.old.free.items o ⊎ (o ≡ goal))) }
         ensures left { OnOk result ((k : ℕ) → IsListed self.old.left k ⊎ (k ≡ goal.occ) → IsListed self.new.left k) }
+        ensures count { OnOk result (length self.new.free.items ≡ length self.old.free.items) }
     {
-        if goal.attr.0 >= 256 {
-            return Err(Memory);
-        }
         self.left.list(goal.occ)?;
-        match self.free.get_mut(goal.occ as usize) {
-            Some(set) => {
-                *set = set.with(goal.attr.0 as usize);
-                Ok(())
-            }
-            None => Err(Memory),
+        if let Some(set) = self.free.get_mut(goal.occ as usize) {
+            *set = set.with(goal.attr.0 as usize);
         }
+        Ok(())
     }
 
     /// How many of the goal's dependencies were found at hand.
@@ -130,10 +127,12 @@ impl Queue {
         requires free { AreFree progress.now goals.now self.old }
         requires seen { HasSeen progress.now goals.now self.old }
         requires listed { AreListed progress.now self.old }
+        requires within { AreWithin goals.now (length self.old.free.items) }
         ensures free { OnOk result (AreFree progress.now goals.now self.new) }
         ensures seen { OnOk result (HasSeen progress.now goals.now self.new) }
         ensures listed { OnOk result (AreListed progress.now self.new) }
-        ensures keeps { OnOk result (Keeps self.old self.new) }
+        ensures count { OnOk result (length self.new.free.items ≡ length self.old.free.items) }
+        ensures keeps { OnOk result (KeepsWaiting self.old self.new) }
         ensures stands { OnOk result ((g : Waiter) → slice_get goals.now at ≡ Some g → StandsIn progress.now self.new at g) }
     {
         let Some(goal) = goals.get(at) else {
@@ -147,6 +146,7 @@ impl Queue {
 
     /// How the goals stand before the first item.
     pub fn start(alloc: Global, progress: &Progress, goals: &[Goal]) -> Result<Queue, Memory>
+        requires { AreWithin goals.now (length progress.now.evaluated.items) }
         ensures { IfOk result (Sorts progress.now goals.now) }
     {
         let count = progress.evaluated.len();
@@ -175,9 +175,11 @@ impl Queue {
         requires free { AreFree progress.now goals.now self.old }
         requires seen { HasSeen progress.now goals.now self.old }
         requires listed { AreListed progress.now self.old }
+        requires within { AreWithin goals.now (length self.old.free.items) }
         ensures free { OnOk result (AreFree progress.now goals.now self.new) }
         ensures seen { OnOk result (HasSeen progress.now goals.now self.new) }
         ensures listed { OnOk result (AreListed progress.now self.new) }
+        ensures count { OnOk result (length self.new.free.items ≡ length self.old.free.items) }
         ensures wakes { OnOk result (Wakes progress.now goals.now self.old self.new missing) }
     {
         let woken = self.woken(alloc, missing);

@@ -6,7 +6,7 @@ ghost use Rattle.visit_sequences.specs.Steps.{AreEvaluated, AreOver, HasBit, IsL
 use crate::goals::Goal;
 use crate::listed::Listed;
 use crate::progress::Progress;
-use crate::rows::row_at;
+use crate::rows::visits_at;
 use flat_grammar::{FlatRule, VisitClass};
 use lido_base::{List, Memory};
 use std::alloc::Global;
@@ -56,7 +56,7 @@ impl Progress {
     fn has_next(&self, visits: &[List<VisitClass>], rule: &FlatRule, occ: u16) -> bool
         ensures { IsTrue result ↔ IsNextAt visits.now rule.now self.now occ }
     {
-        self.visits_made(occ) < row_at(visits, rule, occ).len()
+        self.visits_made(occ) < visits_at(visits, rule, occ).len()
     }
 
     /// How many children from the first on have no visit left, where so many have none.

@@ -3,7 +3,7 @@ use Rattle.std.proofs.Common.{◌≡◌, ◌∙◌, ◌+◌, ℕ, List, ap, subs
 use Rattle.std.proofs.lemmas.List.{length-replicate}
 use Rattle.flat_grammar.specs.declared.plan.VisitClass.{VisitClass}
 use Rattle.flat_grammar.specs.Rules.{symbols_of}
-use Rattle.visit_sequences.specs.Steps.{row_of, Adds, HasBitsOf}
+use Rattle.visit_sequences.specs.Steps.{visits_there, Adds, HasBitsOf}
 use Rattle.visit_sequences.proofs.TakeLemmas.{follows-start}
 use Rattle.visit_sequences.proofs.progress.Progress.start.Goals as goal
 
@@ -13,7 +13,7 @@ returns-clause-follows c =
     let n : ℕ = length c.args.rule.now.right + 1 in
     let count : c.len-count.result + 1 ≡ n = ap (λ k. k + 1) c.len-count.ensures in
     let sets = c.in_ok-at_hand.ensures ∙ ap (λ k. replicate k 0) count in
-    let row : c.row_at.result.now ≡ row_of c.args.parts.now.visits c.args.rule.now 0 = c.row_at.ensures ∙ ap (λ (l : List (List VisitClass)). row_of l c.args.rule.now 0) c.as_slice.ensures in
+    let row : c.visits_at.result.now ≡ visits_there c.args.parts.now.visits c.args.rule.now 0 = c.visits_at.ensures ∙ ap (λ (l : List (List VisitClass)). visits_there l c.args.rule.now 0) c.as_slice.ensures in
     let added : n ≡ length (symbols_of c.args.rule.now) = omega arith in
     let m = ap (λ (l : List ℕ). length l) sets in
     let k = length-replicate {A = ℕ} n 0 in

@@ -1,12 +1,15 @@
 use Rattle.std.specs.Prelude.{slice_get, Some, ◌↔◌, ◌⊎◌, Contains, take, slice_index}
-use Rattle.std.proofs.Common.{◌≡◌, ℕ, ◌∙◌, sym, subst, refl, inl, inr, length}
+use Rattle.std.proofs.Common.{◌≡◌, ◌<◌, ℕ, ◌∙◌, ap, sym, subst, refl, inl, inr, length, Vec, Global}
 use Rattle.std.proofs.lemmas.Option.{slice_get_read}
 use Rattle.flat_grammar.specs.declared.flat.Occ.{Occ}
 use Rattle.flat_grammar.proofs.Lists.{held, contains-slice_get}
 use Rattle.visit_sequences.specs.declared.goals.Goal.{Goal}
-use Rattle.visit_sequences.specs.Steps.{AreFree, AreListed, IsListed, HasBit, HasSeen, Keeps, StandsIn, Waits, IsMissing}
+use Rattle.visit_sequences.specs.Steps.{AreFree, AreListed, IsListed, HasBit, HasSeen, KeepsWaiting, StandsIn, Waits, IsMissing}
 use Rattle.visit_sequences.proofs.QueueLemmas.{on_ok-then, on_ok-two, free-more, listed-more, same-listed, keeps-more, keeps-same, seen-next}
 use Rattle.visit_sequences.proofs.queue.Queue.look.Goals as goal
+
+abbrev Sets : Type 0
+Sets = Vec ℕ Global
 
 pub returns-in-Some-blocked-clause-free : goal.returns-in-Some-blocked-clause-free
 returns-in-Some-blocked-clause-free c =
@@ -44,7 +47,7 @@ returns-in-None-clause-keeps c =
     let old = c.blocked.new.self in
     let new = c.set_free.new.self in
     let o = c.in-Some.goal.now.goal in
-    on_ok-two c.set_free.result (new.waiting ≡ old.waiting) ((u : Occ) → HasBit new.free.items u ↔ (HasBit old.free.items u ⊎ (u ≡ o))) (Keeps c.args.self.now new)
+    on_ok-two c.set_free.result (new.waiting ≡ old.waiting) ((u : Occ) → HasBit new.free.items u ↔ (HasBit old.free.items u ⊎ (u ≡ o))) (KeepsWaiting c.args.self.now new)
     (λ same step. keeps-same c.args.self.now old new c.blocked.ensures.same (keeps-more old new o same step)) c.set_free.ensures.waiting c.set_free.ensures.free
 
 pub returns-in-None-clause-stands : goal.returns-in-None-clause-stands
@@ -70,7 +73,7 @@ pub returns-in-Some-blocked-clause-keeps : goal.returns-in-Some-blocked-clause-k
 returns-in-Some-blocked-clause-keeps c =
     let old = c.blocked.new.self in
     let new = c.wait.new.self in
-    on_ok-then c.wait.result (Keeps old new) (Keeps c.args.self.now new) (keeps-same c.args.self.now old new c.blocked.ensures.same) c.wait.ensures.keeps
+    on_ok-then c.wait.result (KeepsWaiting old new) (KeepsWaiting c.args.self.now new) (keeps-same c.args.self.now old new c.blocked.ensures.same) c.wait.ensures.keeps
 
 pub returns-in-Some-blocked-clause-seen : goal.returns-in-Some-blocked-clause-seen
 returns-in-Some-blocked-clause-seen c =
@@ -114,3 +117,20 @@ returns-in-None-clause-listed c =
     let g = c.in-Some.goal.now.goal in
     on_ok-two c.set_free.result ((o : Occ) → HasBit new.free.items o ↔ (HasBit old.free.items o ⊎ (o ≡ g))) ((k : ℕ) → IsListed old.left k ⊎ (k ≡ g.occ) → IsListed new.left k) (AreListed p new)
     (λ free left. listed-more p old new g free left (same-listed p c.args.self.now old c.blocked.ensures.same.0 c.blocked.ensures.left c.requires.listed)) c.set_free.ensures.free c.set_free.ensures.left
+
+pub set_free-requires : goal.set_free-requires
+set_free-requires c =
+    let goals = c.args.goals.now in
+    let g = c.in-Some.goal.now in
+    let got = c.in-Some.ensures.lookup in
+    let at : slice_get goals c.args.at ≡ Some g = slice_get_read goals (length goals) c.args.at g refl got.3.0 got.1 in
+    let h = c.requires.within g (contains-slice_get goals c.args.at g at) in
+    record { occurrence = subst (λ (v : Sets). g.goal.occ < length v.items) (sym c.blocked.ensures.same.0) h.0; attribute = h.1 }
+
+pub returns-in-None-clause-count : goal.returns-in-None-clause-count
+returns-in-None-clause-count c = on_ok-then c.set_free.result (length c.set_free.new.self.free.items ≡ length c.blocked.new.self.free.items) (length c.set_free.new.self.free.items ≡ length c.args.self.now.free.items)
+    (λ e. e ∙ ap (λ (v : Sets). length v.items) c.blocked.ensures.same.0) c.set_free.ensures.count
+
+pub returns-in-Some-blocked-clause-count : goal.returns-in-Some-blocked-clause-count
+returns-in-Some-blocked-clause-count c = on_ok-then c.wait.result (c.wait.new.self.free ≡ c.blocked.new.self.free) (length c.wait.new.self.free.items ≡ length c.args.self.now.free.items)
+    (λ e. ap (λ (v : Sets). length v.items) (e ∙ c.blocked.ensures.same.0)) c.wait.ensures.free

@@ -1,6 +1,7 @@
 use Rattle.std.specs.Prelude.{Contains}
-use Rattle.std.proofs.Common.{sym, subst}
+use Rattle.std.proofs.Common.{◌∙◌, sym, subst}
 use Rattle.std.proofs.lemmas.List.{take_all}
+use Rattle.visit_sequences.specs.Steps.{AreWithin}
 use Rattle.visit_sequences.proofs.QueueLemmas.{looked-next}
 use Rattle.visit_sequences.proofs.queue.Queue.wake_one.Goals as goal
 
@@ -13,10 +14,14 @@ loop-at-preserved c =
       free = done.free;
       seen = done.seen;
       listed = done.listed;
+      count = done.count ∙ c.loop-at.invariant.count;
       more = λ o b. done.keeps.free o (c.loop-at.invariant.more o b);
       others = λ u i w n. done.keeps.waits u i (c.loop-at.invariant.others u i w n);
       looked = looked-next p goals c.loop-at.self c.look.new.self c.deref-at-items.result.now c.loop-at.at-index 0 c.loop-at-test.true done.keeps c.loop-at.invariant.looked done.stands;
     }
+
+pub look-requires-clause-within : goal.look-requires-clause-within
+look-requires-clause-within c = subst (λ n. AreWithin c.args.goals.now n) (sym c.loop-at.invariant.count) c.requires.within
 
 pub returns-clause-wakes : goal.returns-clause-wakes
 returns-clause-wakes c =

@@ -72,6 +72,26 @@ fn next_source(size: Size, is_first: bool, k: usize, a: usize) -> Occ
     occurrence(1, 2 * ((a / 2 + pairs - 2) % (pairs - 1)) + 1)
 }
 
+/// What a computation reads where the first two children want each other's last attribute for their first.
+fn crossed_source(size: Size, k: usize, a: usize) -> Occ
+    requires size { IsWithin size }
+    requires occurrence { k ≤ size.children }
+    requires attribute { a < size.attributes }
+    ensures { IsInside size result }
+{
+    let last = size.attributes - 1;
+    if k == 0 && a == last {
+        return occurrence(0, last.saturating_sub(1));
+    }
+    if k == 0 {
+        return occurrence(1, a);
+    }
+    if k < 3 && a == 0 && size.children > 1 {
+        return occurrence(3 - k, last);
+    }
+    occurrence(0, a)
+}
+
 /// What a computation reads.
 fn source(size: Size, flow: Flow, is_last: bool, k: usize, a: usize) -> Occ
     requires size { IsWithin size }
@@ -81,6 +101,9 @@ fn source(size: Size, flow: Flow, is_last: bool, k: usize, a: usize) -> Occ
 {
     if flow == Flow::Late {
         return late_source(size, k, a);
+    }
+    if flow == Flow::Crossed {
+        return crossed_source(size, k, a);
     }
     if flow == Flow::Rotated {
         return next_source(size, is_last, k, a);

@@ -27,6 +27,9 @@ pub enum Flow {
     /// Each synthesized attribute of a left side is a copy of the inherited one before it, and all that children inherit waits for
     /// the left side's last attribute.
     Late,
+    /// As straight, but the first attribute of each of the first two children is a copy of the other one's last attribute, and the
+    /// left side's last one a copy of the one before it. So the partition makes a cycle between the first and the last attribute.
+    Crossed,
     /// Inherited attributes are copied to the children's next one, the last to the first, and synthesized ones to the left side's
     /// next one, the last but one to the first. Where a symbol is its own child, one more rule copies its first inherited attribute
     /// to its first synthesized one, if there are twice as many rules as symbols. So the induced dependencies of that symbol grow by

@@ -2,10 +2,11 @@
 ghost use Rattle.std.specs.Prelude.{◌≡◌, ◌+◌, ◌*◌, ◌<◌, ◌≤◌};
 ghost use Rattle.large_grammars.specs.Sizes.{IsWithin};
 
+use flat_grammar::{CycleStep, Label, Occ};
 use induced_deps::induce;
 use large_grammars::{Flow, Size, grammar};
-use lido_base::Memory;
-use partitions::partition;
+use lido_base::{AttrId, Memory, RuleId};
+use partitions::{PartFault, partition};
 use sequence_checker::check;
 use std::alloc::Global;
 use std::test::Fail;
@@ -40,7 +41,7 @@ fn is_soon_planned(rt: &HostRuntime, size: Size, flow: Flow) -> Result<bool, Fai
 fn rules(rules: usize, attributes: usize, children: usize, bottom_up: bool) -> Size
     requires some { 2 ≤ rules }
     requires rules { rules ≤ 1024 }
-    requires attributes { attributes ≤ 128 }
+    requires attributes { attributes ≤ 256 }
     requires child { 0 < children }
     requires occurrences { (1 + children) * attributes ≤ 1024 }
     requires children { children < 1024 }
@@ -53,6 +54,30 @@ fn rules(rules: usize, attributes: usize, children: usize, bottom_up: bool) -> S
         children,
         bottom_up,
     }
+}
+
+/// Symbols under one another with 64 inherited and 64 synthesized attributes, two rules for each.
+fn rotated(symbols: usize) -> Size
+    requires some { 0 < symbols }
+    requires few { symbols ≤ 256 }
+    ensures { IsWithin result }
+{
+    Size {
+        symbols,
+        attributes: 128,
+        rules: 2 * symbols,
+        children: 1,
+        bottom_up: false,
+    }
+}
+
+/// A step of a cycle.
+fn step(occ: u16, attr: u16, label: Label) -> CycleStep {
+    let from = Occ {
+        occ,
+        attr: AttrId(attr),
+    };
+    CycleStep { from, label }
 }
 
 #[test]
@@ -82,6 +107,37 @@ fn late_flow(rt: HostRuntime) -> Result<(), Fail> {
 #[test]
 fn dense_flow(rt: HostRuntime) -> Result<(), Fail> {
     assert!(rt; is_soon_planned(&rt, rules(1_024, 128, 7, false), Flow::Dense)?);
+    Ok(())
+}
+
+#[test]
+fn dense_flow_through_most_attributes(rt: HostRuntime) -> Result<(), Fail> {
+    assert!(rt; is_soon_planned(&rt, rules(1_024, 256, 3, false), Flow::Dense)?);
+    Ok(())
+}
+
+#[test]
+fn pairs_induced_one_by_one(rt: HostRuntime) -> Result<(), Fail> {
+    assert!(rt; is_soon_planned(&rt, rotated(1), Flow::Rotated)?);
+    Ok(())
+}
+
+#[test]
+fn cycle_between_the_first_and_the_last_attribute(rt: HostRuntime) -> Result<(), Fail> {
+    let alloc = rt.alloc();
+    let flat = grammar(alloc, rules(2, 256, 2, false), Flow::Crossed)?;
+    let deps = induce(alloc, &flat)?;
+    let Err(PartFault::Circular(cycle)) = partition(alloc, &flat, &deps) else {
+        return Err(Fail::from(Memory));
+    };
+    let wanted = [
+        step(1, 0, Label::Partition),
+        step(1, 255, Label::Direct),
+        step(2, 0, Label::Partition),
+        step(2, 255, Label::Direct),
+    ];
+    assert_eq!(rt; cycle.rule, RuleId(0));
+    assert_eq!(rt; cycle.steps.as_slice(), &wanted[..]);
     Ok(())
 }
 

@@ -29,7 +29,10 @@ impl Model for Bits {
 
     ghost inverse = { λ number. record { low = number % 2 ^ 128; high = number / 2 ^ 128 } };
 
-    ghost inverse_ok = { λ bits small i. record { low = low_again bits.low bits.high small i; high = high_again bits.low bits.high small i } };
+    ghost inverse_ok = { λ bits small i. record {
+      low = low_again bits.low bits.high small i;
+      high = high_again bits.low bits.high small i;
+    } };
 }
 
 impl Bits {
@@ -99,7 +102,8 @@ impl Bits {
 
     /// The least attribute of the set.
     pub fn first(self) -> Option<AttrId>
-        ensures { MatchOption result ((j : ℕ) → IsBitSet self j → ⊥) (λ a. (a.0 < 256) × IsBitSet self a.0 × ((j : ℕ) → j < a.0 → IsBitSet self j → ⊥)) }
+        ensures { MatchOption result ((j : ℕ) → IsBitSet self j → ⊥)
+            (λ a. (a.0 < 256) × IsBitSet self a.0 × ((j : ℕ) → j < a.0 → IsBitSet self j → ⊥)) }
     {
         if let Some(k) = words::first(self.low) {
             return Some(AttrId(k as u16));

@@ -96,7 +96,8 @@ pub fn each_goal_is_evaluated_once()
 /// A sound sequence evaluates nothing but goals of its rule.
 pub fn goals_alone_are_evaluated()
     ensures { (symbols : List FlatSymbol) (visits : List (List VisitClass)) (r : FlatRule) (seq : List PlanItem)
-        → IsSoundSequence symbols visits r seq → (place : ℕ) (o : Occurrence) → slice_get seq place ≡ Some (Eval o) → Contains (goals_of r) o }
+        → IsSoundSequence symbols visits r seq → (place : ℕ) (o : Occurrence) → slice_get seq place ≡ Some (Eval o)
+        → Contains (goals_of r) o }
 {}
 
 /// A plan has one first fault at most.
@@ -121,13 +122,15 @@ pub fn order_goes_along_the_segment<V>()
 
 /// The construction chooses one item at most.
 pub fn one_item_is_chosen()
-    ensures { (symbols : List FlatSymbol) (rules : List FlatRule) (visits : List (List VisitClass)) (r : FlatRule) (before : List PlanItem) (item other : PlanItem)
+    ensures { (symbols : List FlatSymbol) (rules : List FlatRule) (visits : List (List VisitClass)) (r : FlatRule)
+        (before : List PlanItem) (item other : PlanItem)
         → IsChosen symbols rules visits r before item → IsChosen symbols rules visits r before other → item ≡ other }
 {}
 
 /// The construction gives a rule one sequence at most.
 pub fn one_sequence_is_constructed()
-    ensures { (symbols : List FlatSymbol) (rules : List FlatRule) (visits : List (List VisitClass)) (r : FlatRule) (seq other : List PlanItem)
+    ensures { (symbols : List FlatSymbol) (rules : List FlatRule) (visits : List (List VisitClass)) (r : FlatRule)
+        (seq other : List PlanItem)
         → IsConstructed symbols rules visits r seq → IsConstructed symbols rules visits r other → seq ≡ other }
 {}
 
@@ -140,24 +143,28 @@ pub fn reads_go_down_the_arguments()
 
 /// The terminals of a call, an IF or an ORDER are those of its arguments.
 pub fn terminals_go_down_the_arguments()
-    ensures call { (comp : ℕ) (op : Operation) (args : List Expression) → terminals_of (expr.Apply comp op args) ≡ flat_map terminals_of args }
+    ensures call { (comp : ℕ) (op : Operation) (args : List Expression)
+        → terminals_of (expr.Apply comp op args) ≡ flat_map terminals_of args }
     ensures choice { (args : List Expression) → terminals_of (expr.If args) ≡ flat_map terminals_of args }
     ensures order { (args : List Expression) → terminals_of (expr.Order args) ≡ flat_map terminals_of args }
 {}
 
 /// The text cells of a call, an IF or an ORDER are its own and those of its arguments.
 pub fn text_cells_go_down_the_arguments()
-    ensures call { (comp : ℕ) (op : Operation) (args : List Expression) → cells (expr.Apply comp op args) ≡ own_cells op (length args) + sum_by cells args }
+    ensures call { (comp : ℕ) (op : Operation) (args : List Expression)
+        → cells (expr.Apply comp op args) ≡ own_cells op (length args) + sum_by cells args }
     ensures choice { (args : List Expression) → cells (expr.If args) ≡ sum_by cells args }
     ensures order { (args : List Expression) → cells (expr.Order args) ≡ sum_by cells args }
 {}
 
 /// The value of a call, an IF or an ORDER is made of the values of its arguments.
 pub fn values_go_down_the_arguments()
-    ensures call { (env : Environment) (t : Tree Plain) (node_of : List ℕ) (B : Instance → Plain) (origin n : ℕ) (comp : ℕ) (op : Operation) (args : List Expression)
+    ensures call { (env : Environment) (t : Tree Plain) (node_of : List ℕ) (B : Instance → Plain) (origin n : ℕ)
+        (comp : ℕ) (op : Operation) (args : List Expression)
         → value_of env t node_of B origin n (expr.Apply comp op args)
         ≡ operate env.texts env.patterns (fails env t node_of B origin n comp) op (map (value_of env t node_of B origin n) args) }
-    ensures choice { (env : Environment) (t : Tree Plain) (node_of : List ℕ) (B : Instance → Plain) (origin n : ℕ) (args : List Expression)
+    ensures choice { (env : Environment) (t : Tree Plain) (node_of : List ℕ) (B : Instance → Plain) (origin n : ℕ)
+        (args : List Expression)
         → value_of env t node_of B origin n (expr.If args) ≡ chosen (map (value_of env t node_of B origin n) args) }
     ensures order { (env : Environment) (t : Tree Plain) (node_of : List ℕ) (B : Instance → Plain) (origin n : ℕ) (args : List Expression)
         → (let values = map (value_of env t node_of B origin n) args in
@@ -166,10 +173,14 @@ pub fn values_go_down_the_arguments()
 
 /// The flat tree of a written tree that fits the grammar is one of the grammar: it has at each node what the node's rule says.
 pub fn flat_trees_are_grown()
-    ensures plain { (symbols : List FlatSymbol) (rules : List FlatRule) (shapes : List Shape) (root : Symbol) (written flat : Tree Plain) (node_of : List ℕ)
-        → IsWellFormed symbols rules shapes root → IsFitting symbols rules shapes root written → IsFlatTree rules shapes written flat node_of
+    ensures plain { (symbols : List FlatSymbol) (rules : List FlatRule) (shapes : List Shape) (root : Symbol)
+        (written flat : Tree Plain) (node_of : List ℕ)
+        → IsWellFormed symbols rules shapes root → IsFitting symbols rules shapes root written
+        → IsFlatTree rules shapes written flat node_of
         → IsGrown symbols rules flat root }
-    ensures stored { (symbols : List FlatSymbol) (rules : List FlatRule) (shapes : List Shape) (root : Symbol) (texts : List (List ℕ)) (written flat : Tree Terminal) (node_of : List ℕ)
-        → IsWellFormed symbols rules shapes root → IsFitting symbols rules shapes root (plain_tree texts written) → IsFlatTree rules shapes written flat node_of
+    ensures stored { (symbols : List FlatSymbol) (rules : List FlatRule) (shapes : List Shape) (root : Symbol)
+        (texts : List (List ℕ)) (written flat : Tree Terminal) (node_of : List ℕ)
+        → IsWellFormed symbols rules shapes root → IsFitting symbols rules shapes root (plain_tree texts written)
+        → IsFlatTree rules shapes written flat node_of
         → IsGrown symbols rules flat root }
 {}

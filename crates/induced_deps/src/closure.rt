@@ -108,7 +108,8 @@ impl Closure {
         requires vertex { from < length self.old.rows.items }
         requires small { from < 1024 }
         ensures size { length self.new.rows.items ≡ length self.old.rows.items }
-        ensures edges { (v w : ℕ) → Has self.new.rows.items v w ↔ (Has self.old.rows.items v w ⊎ ComesTo self.old.rows.items from set.now.words v w) }
+        ensures edges { (v w : ℕ)
+            → Has self.new.rows.items v w ↔ (Has self.old.rows.items v w ⊎ ComesTo self.old.rows.items from set.now.words v w) }
     {
         for v in 0..self.rows.len() {
             if v == from || self.rows[v].has(from) {

@@ -76,7 +76,8 @@ fn add_comp(
     requires within { AreWithin places.now (length closure.old.rows.items) }
     requires few { length closure.old.rows.items ≤ 1024 }
     ensures size { length closure.new.rows.items ≡ length closure.old.rows.items }
-    ensures edges { OnOk result (Gains closure.old.rows.items closure.new.rows.items (ToGoal places.now (dependencies comp.now) comp.now.goal)) }
+    ensures edges { OnOk result
+        (Gains closure.old.rows.items closure.new.rows.items (ToGoal places.now (dependencies comp.now) comp.now.goal)) }
 {
     let before = dependencies_of(alloc, comp)?;
     add_edges(places, before.as_slice(), comp.goal, closure);

@@ -46,7 +46,8 @@ fn step(graph: &mut Graph, ids: &mut [List<Bits>], due: &mut Due) -> bool
     ensures transitive { IsTransitive graph.new.closure.rows.items }
     ensures edges { Gains graph.old.closure.rows.items graph.new.closure.rows.items (OfPlaces ids.old graph.old.places.items) }
     ensures sizes { map length ids.new ≡ map length ids.old }
-    ensures sound { (x a b : ℕ) → IsBit (rows_of ids.new x) a b → IsBit (rows_of ids.old x) a b ⊎ IsProjected graph.old.places.items graph.new.closure.rows.items x a b }
+    ensures sound { (x a b : ℕ) → IsBit (rows_of ids.new x) a b
+        → IsBit (rows_of ids.old x) a b ⊎ IsProjected graph.old.places.items graph.new.closure.rows.items x a b }
     ensures tells { Tells due.old due.new ids.old ids.new }
     ensures same { IsFalse result → ids.new ≡ ids.old }
     ensures still { IsFalse result → due.new ≡ due.old }

@@ -135,7 +135,9 @@ fn project_at(place: Place, closure: &Closure, rows: &mut [Bits]) -> bool
     requires within { place.offset + place.width ≤ length closure.now.rows.items }
     requires small { length closure.now.rows.items ≤ 1024 }
     ensures size { length rows.new ≡ length rows.old }
-    ensures bits { (a b : ℕ) → IsBit rows.new a b ↔ (IsBit rows.old a b ⊎ ((a < place.width) × (b < place.width) × Has closure.now.rows.items (place.offset + a) (place.offset + b))) }
+    ensures bits { (a b : ℕ)
+        → IsBit rows.new a b ↔ (IsBit rows.old a b
+        ⊎ ((a < place.width) × (b < place.width) × Has closure.now.rows.items (place.offset + a) (place.offset + b))) }
     ensures same { IsFalse result → rows.new ≡ rows.old }
     ensures lighter { room_of_rows rows.new ≤ room_of_rows rows.old }
     ensures less { IsTrue result → room_of_rows rows.new < room_of_rows rows.old }
@@ -156,7 +158,8 @@ fn project_place(place: Place, closure: &Closure, ids: &mut [List<Bits>]) -> boo
     requires within { place.offset + place.width ≤ length closure.now.rows.items }
     requires small { length closure.now.rows.items ≤ 1024 }
     ensures sizes { map length ids.new ≡ map length ids.old }
-    ensures bits { (x a b : ℕ) → IsBit (rows_of ids.new x) a b ↔ (IsBit (rows_of ids.old x) a b ⊎ IsAtSymbol place closure.now.rows.items x a b) }
+    ensures bits { (x a b : ℕ)
+        → IsBit (rows_of ids.new x) a b ↔ (IsBit (rows_of ids.old x) a b ⊎ IsAtSymbol place closure.now.rows.items x a b) }
     ensures others { (x : ℕ) → x ≢ place.symbol.0 → rows_of ids.new x ≡ rows_of ids.old x }
     ensures same { IsFalse result → ids.new ≡ ids.old }
     ensures lighter { room_of_all ids.new ≤ room_of_all ids.old }
@@ -174,7 +177,8 @@ fn feed(place: Place, closure: &Closure, ids: &mut [List<Bits>], due: &mut Due) 
     requires small { length closure.now.rows.items ≤ 1024 }
     requires ready { IsReady ids.old due.old }
     ensures sizes { map length ids.new ≡ map length ids.old }
-    ensures bits { (x a b : ℕ) → IsBit (rows_of ids.new x) a b ↔ (IsBit (rows_of ids.old x) a b ⊎ IsAtSymbol place closure.now.rows.items x a b) }
+    ensures bits { (x a b : ℕ)
+        → IsBit (rows_of ids.new x) a b ↔ (IsBit (rows_of ids.old x) a b ⊎ IsAtSymbol place closure.now.rows.items x a b) }
     ensures tells { Tells due.old due.new ids.old ids.new }
     ensures same { IsFalse result → ids.new ≡ ids.old }
     ensures still { IsFalse result → due.new ≡ due.old }
@@ -196,7 +200,8 @@ pub fn project(places: &[Place], closure: &Closure, ids: &mut [List<Bits>], due:
     requires small { length closure.now.rows.items ≤ 1024 }
     requires ready { IsReady ids.old due.old }
     ensures sizes { map length ids.new ≡ map length ids.old }
-    ensures sound { (x a b : ℕ) → IsBit (rows_of ids.new x) a b → IsBit (rows_of ids.old x) a b ⊎ IsProjected places.now closure.now.rows.items x a b }
+    ensures sound { (x a b : ℕ) → IsBit (rows_of ids.new x) a b
+        → IsBit (rows_of ids.old x) a b ⊎ IsProjected places.now closure.now.rows.items x a b }
     ensures tells { Tells due.old due.new ids.old ids.new }
     ensures same { IsFalse result → ids.new ≡ ids.old }
     ensures still { IsFalse result → due.new ≡ due.old }

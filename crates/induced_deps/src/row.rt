@@ -64,7 +64,8 @@ impl Row {
 
     /// A number of the set that isn't in the other one, from its last word on.
     pub fn first_beside(&self, other: &Row) -> Option<usize>
-        ensures { MatchOption result (IsPart self.now.words other.now.words) (λ k. (k < 1024) × IsIn self.now.words k × (IsIn other.now.words k → ⊥)) }
+        ensures { MatchOption result (IsPart self.now.words other.now.words)
+            (λ k. (k < 1024) × IsIn self.now.words k × (IsIn other.now.words k → ⊥)) }
     {
         for k in 0..WORDS {
             let i = WORDS - 1 - k;

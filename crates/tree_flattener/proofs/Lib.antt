@@ -12,6 +12,7 @@ pub mod OneRoleLemmas
 pub mod OneRuleLemmas
 pub mod OneTreeLemmas
 pub mod PlacedLemmas
+pub mod RoleLemmas
 pub mod ShapeLemmas
 pub mod StepLemmas
 pub mod TableLemmas

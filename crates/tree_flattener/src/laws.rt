@@ -10,6 +10,7 @@ ghost use Rattle.flat_grammar.specs.declared.flat.Shape.{Shape};
 ghost use Rattle.flat_grammar.specs.Fitting.{IsFitting, instances, text_cells};
 ghost use Rattle.flat_grammar.specs.FlatTrees.{IsFlatTree};
 ghost use Rattle.flat_grammar.specs.WellFormed.{IsWellFormed};
+ghost use Rattle.tree_flattener.specs.Roles.{HasRole};
 
 /// A written tree whose nodes have shapes has one flat tree, with one list of written nodes.
 pub fn one_flat_tree<V>()
@@ -39,4 +40,11 @@ pub fn plain_trees_stay_flat()
         → instances symbols rules (plain_tree texts F) ≡ instances symbols rules F }
     ensures text_cells { (symbols : List FlatSymbol) (rules : List FlatRule) (texts : List (List ℕ)) (F : Table Terminal)
         → text_cells symbols rules (plain_tree texts F) ≡ text_cells symbols rules F }
+{}
+
+/// Each flat node is a written node, or a cell of a written list, from which on the list's last elements stand.
+pub fn each_flat_node_has_a_role<V>()
+    ensures { (rules : List FlatRule) (shapes : List Shape) (W F : Table V) (node_of : List ℕ)
+        → ((w : ℕ) → w < length W → (shape : Shape) × Contains shapes shape × (rule_at W w ≡ Some shape.rule.0))
+        → IsFlatTree rules shapes W F node_of → (n : ℕ) → n < length F → (w : ℕ) × HasRole rules shapes W F node_of n w }
 {}

@@ -1,15 +1,15 @@
 -- In a complete specification each attribute of each node of a fitting tree has one computation.
-use Rattle.std.specs.Prelude.{Contains, IsTrue, Bool, true, false, ◌&&◌, nat_lt, slice_get, filter_map, unwrap_or, MatchBool}
+use Rattle.std.specs.Prelude.{Contains, IsTrue, Bool, true, false, slice_get, unwrap_or, MatchBool}
 use Rattle.std.specs.List.{AllZip}
-use Rattle.std.proofs.Common.{◌≡◌, ℕ, zero, suc, ◌+◌, ◌<◌, ◌⊎◌, inl, inr, List, [], ◌∷◌, length, Option, Some, None, refl, arith, ap, subst, sym, ◌∙◌, add-one, eq-eqb}
-use Rattle.std.proofs.lemmas.Bool.{lt-ltb}
+use Rattle.std.proofs.Common.{◌≡◌, ℕ, zero, suc, ◌<◌, List, [], ◌∷◌, length, Some, refl, arith, ap, subst, sym, ◌∙◌, add-one}
 use Rattle.std.proofs.lemmas.Option.{same_Some, slice_get_within, unwrap_or-slice_get}
 use Rattle.lido_base.specs.declared.kinds.Kind.{Kind}
 use Rattle.lido_base.specs.declared.kinds.Kind.TheVariants as kind
 use Rattle.lido_base.specs.Plain.{Plain}
-use Rattle.lido_base.specs.Tree.{Tree, Item, Child, Leaf, child_number, children, items_of, item_at, parent_of, place_of, is_just, continues, contains, IsTree}
-use Rattle.lido_base.proofs.Lists.{contains-nil, contains-cons, contains-later, place-contains}
-use Rattle.lido_base.proofs.TreeLemmas.{both, contains-test, test-contains, is_just-some, parent_before}
+use Rattle.lido_base.specs.Tree.{Tree, Child, items_of, item_at, parent_of, contains, IsTree}
+use Rattle.lido_base.proofs.Lists.{place-contains}
+use Rattle.lido_base.proofs.PathLemmas.{parent_there, child_of_parent, child_parent, child_place}
+use Rattle.lido_base.proofs.TreeLemmas.{parent_before}
 use Rattle.lido_syntax.specs.declared.spec.Spec.{Spec}
 use Rattle.lido_syntax.specs.declared.spec.Comp.{Comp}
 use Rattle.lido_syntax.specs.declared.spec.RuleItem.{RuleItem}
@@ -26,22 +26,6 @@ use Rattle.lido_syntax.proofs.DecidedLemmas.{goal_of}
 use Rattle.lido_syntax.proofs.ComputationLemmas.{one_in_force}
 use Rattle.lido_syntax.proofs.ChainsLemmas.{at_rule}
 
-child_place : {V : Type 0} (xs : List (Item V)) (c : ℕ) → Contains (filter_map child_number xs) c → (k : ℕ) × (slice_get xs k ≡ Some (Child c))
-child_place [] c m = absurd (contains-nil c m)
-child_place (Leaf v ∷ xs) c m = let more = child_place xs c m in (suc more.0, more.1)
-child_place (Child d ∷ xs) c m = by (contains-cons d c (filter_map child_number xs) m) (child_place xs c)
-  where
-    by : (d ≡ c) ⊎ Contains (filter_map child_number xs) c → (Contains (filter_map child_number xs) c → (k : ℕ) × (slice_get xs k ≡ Some (Child c))) → (k : ℕ) × (slice_get (Child d ∷ xs) k ≡ Some (Child c))
-    by (inl e) later = (0, ap (λ d. Some (Child d)) e)
-    by (inr m) later = let more = later m in (suc more.0, more.1)
-
-among_children : {V : Type 0} (xs : List (Item V)) (k c : ℕ) → slice_get xs k ≡ Some (Child c) → Contains (filter_map child_number xs) c
-among_children [] k c e = cc
-among_children (Leaf v ∷ xs) zero c e = cc
-among_children (Leaf v ∷ xs) (suc k) c e = among_children xs k c e
-among_children (Child d ∷ xs) zero c e = let same : d ≡ c = cc in (0, omega arith, same)
-among_children (Child d ∷ xs) (suc k) c e = contains-later d c (filter_map child_number xs) (among_children xs k c e)
-
 zip_place : {A B : Type 0} (R : A → B → Type 0) (xs : List A) (ys : List B) (k : ℕ) (y : B) → AllZip R xs ys → slice_get ys k ≡ Some y → (x : A) × (slice_get xs k ≡ Some x) × R x y
 zip_place R [] [] k y all e = cc
 zip_place R [] (b ∷ ys) k y all e = absurd all
@@ -50,29 +34,12 @@ zip_place R (a ∷ xs) (b ∷ ys) zero y all e = (a, refl, subst (R a) (same_Som
 zip_place R (a ∷ xs) (b ∷ ys) (suc k) y all e = zip_place R xs ys k y all.1 e
 
 module _ (t : Tree Plain) (w : IsTree t) where
-  parent_is : (p k n : ℕ) → item_at t p k ≡ Some (Child n) → parent_of t n ≡ Some p
-  parent_is p zero n e = cc
-  parent_is p (suc k) n e =
-      let a = both (nat_lt n (length t)) (is_just p (parent_of t n)) (sym (w.items_agree p n) ∙ test-contains n (children t p) (among_children (items_of t p) k n e)) in
-      is_just-some p (parent_of t n) a.1
-
-  place_is : (p k n : ℕ) → item_at t p k ≡ Some (Child n) → place_of t n ≡ k
-  place_is p zero n e = cc
-  place_is p (suc k) n e = w.places_agree p k n e
-
   has_parent : (n : ℕ) → suc n < length t → (p : ℕ) × (k : ℕ) × (p < length t) × (item_at t p (suc k) ≡ Some (Child (suc n)))
-  has_parent n h = go (parent_of t (n + 1)) refl (w.in_preorder n (omega (arith, h)))
-    where
-      go : (o : Option ℕ) → parent_of t (n + 1) ≡ o → IsTrue (continues t n o) → (p : ℕ) × (k : ℕ) × (p < length t) × (item_at t p (suc k) ≡ Some (Child (suc n)))
-      go None e c = cc
-      go (Some p) e c =
-          let own : parent_of t (suc n) ≡ Some p = ap (parent_of t) (sym (add-one n)) ∙ e in
-          let above = parent_before t w (suc n) p own in
-          let self : is_just p (parent_of t (suc n)) ≡ true = ap (is_just p) own ∙ eq-eqb p p refl in
-          let inside : nat_lt (suc n) (length t) ≡ true = lt-ltb (suc n) (length t) h in
-          let among : IsTrue (contains (suc n) (children t p)) = w.items_agree p (suc n) ∙ (λ i. inside i && self i) in
-          let place = child_place (items_of t p) (suc n) (contains-test (suc n) (children t p) among) in
-          (p, place.0, omega (arith, above, h), place.1)
+  has_parent n h =
+      let up = parent_there t w n (omega (arith, h)) in
+      let own : parent_of t (suc n) ≡ Some up.0 = ap (parent_of t) (sym (add-one n)) ∙ up.1 in
+      let place = child_of_parent t w (suc n) up.0 h own in
+      (up.0, place.0, omega (arith, parent_before t w (suc n) up.0 own, h), place.1)
 
 module _ (spec : Spec) (complete : IsComplete spec) (t : Tree Plain) where
   in_rules : (n : ℕ) (r : RuleItem) → IsAt spec t n r → Contains spec.rules r
@@ -139,8 +106,8 @@ module _ (spec : Spec) (complete : IsComplete spec) (t : Tree Plain) where
     beside : (p k q p' k' q' : ℕ) (r r' : RuleItem) (h g : Holder) (c d : Comp) → IsChild spec t p k n → IsChild spec t p' k' n → IsAt spec t p r → IsAt spec t p' r' → HasSymbol spec t n q → HasSymbol spec t n q'
         → InForce spec r k q (Inherited a) h c → InForce spec r' k' q' (Inherited a) g d → (p ≡ p') × (h ≡ g) × (c ≡ d)
     beside p k q p' k' q' r r' h g c d child child' at at' is is' force force' =
-        let parents : p' ≡ p = same_Some p' p (sym (parent_is t w p' k' n child') ∙ parent_is t w p k n child) in
-        let places : k' ≡ k = sym (place_is t w p' k' n child') ∙ place_is t w p k n child in
+        let parents : p' ≡ p = same_Some p' p (sym (child_parent t w p' k' n child') ∙ child_parent t w p k n child) in
+        let places : k' ≡ k = sym (child_place t w p' k' n child') ∙ child_place t w p k n child in
         let rules : r' ≡ r = at_rule spec t p r' r (subst (λ p. IsAt spec t p r') parents at') at in
         let symbols : q' ≡ q = same_symbol n q' q is' is in
         let moved : InForce spec r k q (Inherited a) g d = subst (λ r. InForce spec r k q (Inherited a) g d) rules (subst (λ k. InForce spec r' k q (Inherited a) g d) places (subst (λ q. InForce spec r' k' q (Inherited a) g d) symbols force')) in

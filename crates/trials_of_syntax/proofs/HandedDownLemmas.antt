@@ -28,7 +28,7 @@ use Rattle.lido_syntax.proofs.ExpressionLemmas.{reads-Call}
 use Rattle.trials_of_syntax.specs.Writing.{name, declaration}
 use Rattle.trials_of_syntax.specs.HandedDown.{Top, Left, Right, Five, i, five, three, fives, out, quotient, class_five, top_rule, left_rule, right_rule, spec, tree}
 use Rattle.trials_of_syntax.proofs.Classes.{inherits_within}
-use Rattle.trials_of_syntax.proofs.Members.{every, some_same, one_of, apart}
+use Rattle.trials_of_syntax.proofs.Members.{every, same_Some, one_of, apart}
 use Rattle.trials_of_syntax.proofs.RulesOnly.{EachUse, OfNamed, side_of, false_from}
 
 -- one symbol inherits, one class
@@ -166,10 +166,10 @@ pub by_node : (P : ℕ → RuleItem → Type 0) → P 0 top_rule → P 1 left_ru
 by_node P a b c d m r (j, at, is) = go m (rw at is)
   where
     go : (m : ℕ) → option_and_then (slice_get spec.rules) (rule_at tree m) ≡ Some r → P m r
-    go zero h = subst (P 0) (some_same _ _ h) a
-    go (suc zero) h = subst (P 1) (some_same _ _ h) b
-    go (suc (suc zero)) h = subst (P 2) (some_same _ _ h) c
-    go (suc (suc (suc zero))) h = subst (P 3) (some_same _ _ h) d
+    go zero h = subst (P 0) (same_Some _ _ h) a
+    go (suc zero) h = subst (P 1) (same_Some _ _ h) b
+    go (suc (suc zero)) h = subst (P 2) (same_Some _ _ h) c
+    go (suc (suc (suc zero))) h = subst (P 3) (same_Some _ _ h) d
     go (suc (suc (suc (suc m)))) h = cc
 
 pub is_right : (m s : ℕ) → HasSymbol spec tree m s → s ≡ Right → m ≡ 2

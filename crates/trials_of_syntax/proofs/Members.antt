@@ -1,8 +1,9 @@
 -- What holds of each item of a list that is written out.
 use Rattle.std.specs.Prelude.{Contains, Bool, true, false, IsTrue, ◌||◌, nat_eq}
 use Rattle.std.specs.List.{AllByRecursion}
-use Rattle.std.proofs.Common.{◌≡◌, ℕ, ◌⊎◌, inl, inr, List, [], ◌∷◌, Some, refl, arith, subst, sym, ◌∙◌, eqb-true, eq-eqb}
-use Rattle.lido_base.proofs.TreeLemmas.{contains-cons}
+use Rattle.std.proofs.Common.{◌≡◌, ℕ, ◌⊎◌, inl, inr, List, [], ◌∷◌, refl, arith, subst, sym, ◌∙◌, eqb-true, eq-eqb}
+pub use Rattle.std.proofs.lemmas.Option.{same_Some}
+use Rattle.lido_base.proofs.Lists.{contains-cons}
 
 pub every : {X : Type 0} (P : X → Type 0) (xs : List X) → AllByRecursion P xs → (x : X) → Contains xs x → P x
 every P [] all x m = absurd (omega (arith, m.1))
@@ -26,9 +27,6 @@ one_of_two x y z h = go (nat_eq x y) refl h
     go : (b : Bool) → nat_eq x y ≡ b → IsTrue (b || (nat_eq x z || false)) → (x ≡ y) ⊎ (x ≡ z)
     go true e h = inl (eqb-true x y e)
     go false e h = inr (one_of x z h)
-
-pub some_same : {X : Type 0} (x y : X) → Some x ≡ Some y → x ≡ y
-some_same x y e = cc
 
 -- no number is two
 pub apart : (a b x : ℕ) → x ≡ a → x ≡ b → nat_eq a b ≡ false → ⊥

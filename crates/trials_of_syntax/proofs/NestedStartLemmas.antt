@@ -14,7 +14,7 @@ use Rattle.lido_syntax.specs.Production.{left_of}
 use Rattle.lido_syntax.specs.Computation.{Goal, Holder, Start, Behind, by_rule, of_rule, InRule, IsRuleTarget}
 use Rattle.lido_syntax.specs.Nodes.{IsAt, InForceAt, HasInForce}
 use Rattle.trials_of_syntax.specs.NestedStart.{spec, tree, top_rule, item_rule, sub_rule, group_rule, from_one, from_ten, next, no, text}
-use Rattle.trials_of_syntax.proofs.Members.{every, some_same}
+use Rattle.trials_of_syntax.proofs.Members.{every, same_Some}
 use Rattle.trials_of_syntax.proofs.RulesOnly.{only_rules, rule_of}
 
 -- what holds of each node and its rule
@@ -22,13 +22,13 @@ pub by_node : (P : ℕ → RuleItem → Type 0) → P 0 top_rule → P 1 item_ru
 by_node P a b c d e f g m r at = go m (rule_of spec.rules spec.attrs spec.terms spec.chains tree m r at)
   where
     go : (m : ℕ) → option_and_then (slice_get spec.rules) (rule_at tree m) ≡ Some r → P m r
-    go zero h = subst (P 0) (some_same _ _ h) a
-    go (suc zero) h = subst (P 1) (some_same _ _ h) b
-    go (suc (suc zero)) h = subst (P 2) (some_same _ _ h) c
-    go (suc (suc (suc zero))) h = subst (P 3) (some_same _ _ h) d
-    go (suc (suc (suc (suc zero)))) h = subst (P 4) (some_same _ _ h) e
-    go (suc (suc (suc (suc (suc zero))))) h = subst (P 5) (some_same _ _ h) f
-    go (suc (suc (suc (suc (suc (suc zero)))))) h = subst (P 6) (some_same _ _ h) g
+    go zero h = subst (P 0) (same_Some _ _ h) a
+    go (suc zero) h = subst (P 1) (same_Some _ _ h) b
+    go (suc (suc zero)) h = subst (P 2) (same_Some _ _ h) c
+    go (suc (suc (suc zero))) h = subst (P 3) (same_Some _ _ h) d
+    go (suc (suc (suc (suc zero)))) h = subst (P 4) (same_Some _ _ h) e
+    go (suc (suc (suc (suc (suc zero))))) h = subst (P 5) (same_Some _ _ h) f
+    go (suc (suc (suc (suc (suc (suc zero)))))) h = subst (P 6) (same_Some _ _ h) g
     go (suc (suc (suc (suc (suc (suc (suc m))))))) h = cc
 
 -- a computation in force on a left side is one of the rule's body

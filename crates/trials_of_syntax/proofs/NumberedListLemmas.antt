@@ -9,7 +9,7 @@ use Rattle.lido_syntax.specs.Computation.{Goal, Holder, Start, Behind, by_rule, 
 use Rattle.lido_syntax.specs.Nodes.{IsAt, InForceAt, HasInForce}
 use Rattle.trials_of_syntax.specs.NestedStart.{spec, top_rule, item_rule, from_one, next, no, text}
 use Rattle.trials_of_syntax.specs.NumberedList.{tree}
-use Rattle.trials_of_syntax.proofs.Members.{every, some_same}
+use Rattle.trials_of_syntax.proofs.Members.{every, same_Some}
 use Rattle.trials_of_syntax.proofs.RulesOnly.{only_rules, rule_of}
 use Rattle.trials_of_syntax.proofs.NestedStartLemmas.{Holds}
 
@@ -18,10 +18,10 @@ pub by_node : (P : ℕ → RuleItem → Type 0) → P 0 top_rule → P 1 item_ru
 by_node P a b c d m r at = go m (rule_of spec.rules spec.attrs spec.terms spec.chains tree m r at)
   where
     go : (m : ℕ) → option_and_then (slice_get spec.rules) (rule_at tree m) ≡ Some r → P m r
-    go zero h = subst (P 0) (some_same _ _ h) a
-    go (suc zero) h = subst (P 1) (some_same _ _ h) b
-    go (suc (suc zero)) h = subst (P 2) (some_same _ _ h) c
-    go (suc (suc (suc zero))) h = subst (P 3) (some_same _ _ h) d
+    go zero h = subst (P 0) (same_Some _ _ h) a
+    go (suc zero) h = subst (P 1) (same_Some _ _ h) b
+    go (suc (suc zero)) h = subst (P 2) (same_Some _ _ h) c
+    go (suc (suc (suc zero))) h = subst (P 3) (same_Some _ _ h) d
     go (suc (suc (suc (suc m)))) h = cc
 
 pub in_force : (goal : Goal) (P : ℕ → Comp → Type 0) → Holds P goal 0 top_rule → Holds P goal 1 item_rule → Holds P goal 2 item_rule → Holds P goal 3 item_rule

@@ -19,7 +19,7 @@ use Rattle.lido_syntax.specs.Nodes.{IsAt, InForceAt}
 use Rattle.lido_syntax.proofs.ExpressionLemmas.{reads-Call}
 use Rattle.trials_of_syntax.specs.OneAttribution.{spec, tree, top_rule, x_rule, x_item, i_decl, v_decl, next, X, c, v, i, w}
 use Rattle.trials_of_syntax.proofs.Classes.{inherits_within}
-use Rattle.trials_of_syntax.proofs.Members.{every, some_same, one_of}
+use Rattle.trials_of_syntax.proofs.Members.{every, same_Some, one_of}
 use Rattle.trials_of_syntax.proofs.RulesOnly.{EachUse, OfNamed}
 
 pub no_inherits : (s class : ℕ) → ¬ Inherits spec s class
@@ -37,9 +37,9 @@ pub by_node : (P : ℕ → RuleItem → Type 0) → P 0 top_rule → P 1 x_rule 
 by_node P a b d m r (j, at, is) = go m (rw at is)
   where
     go : (m : ℕ) → option_and_then (slice_get spec.rules) (rule_at tree m) ≡ Some r → P m r
-    go zero e = subst (P 0) (some_same _ _ e) a
-    go (suc zero) e = subst (P 1) (some_same _ _ e) b
-    go (suc (suc zero)) e = subst (P 2) (some_same _ _ e) d
+    go zero e = subst (P 0) (same_Some _ _ e) a
+    go (suc zero) e = subst (P 1) (same_Some _ _ e) b
+    go (suc (suc zero)) e = subst (P 2) (same_Some _ _ e) d
     go (suc (suc (suc m))) e = cc
 
 -- attributes

@@ -19,7 +19,7 @@ use Rattle.lido_syntax.specs.Nodes.{IsAt}
 use Rattle.lido_syntax.proofs.ExpressionLemmas.{reads-Call}
 use Rattle.trials_of_syntax.specs.Writing.{name, declaration}
 use Rattle.trials_of_syntax.specs.SumOfItems.{spec, tree, top_rule, item_rule, out, number, Item, n}
-use Rattle.trials_of_syntax.proofs.Members.{every, some_same}
+use Rattle.trials_of_syntax.proofs.Members.{every, same_Some}
 use Rattle.trials_of_syntax.proofs.RulesOnly.{EachUse, has_within, not_declared_kind, kind_within, not_typed_by_symbol, rule_of}
 
 -- the only symbol with an attribute, and its only attribute
@@ -60,9 +60,9 @@ pub by_node : (P : ℕ → RuleItem → Type 0) → P 0 top_rule → P 1 item_ru
 by_node P a b c m r at = go m (rule_of spec.rules spec.attrs spec.terms spec.chains tree m r at)
   where
     go : (m : ℕ) → option_and_then (slice_get spec.rules) (rule_at tree m) ≡ Some r → P m r
-    go zero e = subst (P 0) (some_same _ _ e) a
-    go (suc zero) e = subst (P 1) (some_same _ _ e) b
-    go (suc (suc zero)) e = subst (P 2) (some_same _ _ e) c
+    go zero e = subst (P 0) (same_Some _ _ e) a
+    go (suc zero) e = subst (P 1) (same_Some _ _ e) b
+    go (suc (suc zero)) e = subst (P 2) (same_Some _ _ e) c
     go (suc (suc (suc m))) e = cc
 
 pub one_type : (s a : ℕ) (x y : ValueType) → HasType spec s a x → HasType spec s a y → x ≡ y

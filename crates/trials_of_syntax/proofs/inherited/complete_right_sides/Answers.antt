@@ -10,7 +10,7 @@ use Rattle.lido_syntax.specs.Attributes.{Has, HasKind}
 use Rattle.lido_syntax.specs.Completeness.{IsSingle}
 use Rattle.lido_syntax.specs.Computation.{Goal, Synthesized, Inherited, by_rule, by_symbol, InForce, InRule, IsRuleTarget, HasComputation}
 use Rattle.trials_of_syntax.specs.HandedDown.{spec, top_rule, left_rule, right_rule, three, out, five, quotient, Top, Left, Right, i}
-use Rattle.trials_of_syntax.proofs.Members.{every, some_same, one_of_two}
+use Rattle.trials_of_syntax.proofs.Members.{every, same_Some, one_of_two}
 use Rattle.trials_of_syntax.proofs.HandedDownLemmas.{in_body, only_handed, one_kind, one_type, kind_left, kind_right, not_synthesized, three_in_force, quotient_in_force, five_in_force}
 use Rattle.trials_of_syntax.proofs.inherited.complete_right_sides.Goals as goal
 
@@ -55,15 +55,15 @@ abbrev IsComputed : RuleItem → ℕ → ℕ → Type 0
 IsComputed r k s = HasComputation spec r k s (Inherited i)
 
 at_top : (k s : ℕ) → CanStandAt top_rule (suc k) s → IsComputed top_rule (suc k) s
-at_top zero s h = subst (IsComputed top_rule 1) (some_same Left s h) (by_rule, three, three_in_force)
-at_top (suc zero) s h = subst (IsComputed top_rule 2) (some_same Right s h) (by_symbol, five, five_in_force)
+at_top zero s h = subst (IsComputed top_rule 1) (same_Some Left s h) (by_rule, three, three_in_force)
+at_top (suc zero) s h = subst (IsComputed top_rule 2) (same_Some Right s h) (by_symbol, five, five_in_force)
 at_top (suc (suc k)) s h = cc
 
 at_left : (k s : ℕ) → ¬ CanStandAt left_rule (suc k) s
 at_left k s h = cc
 
 at_right : (k s : ℕ) → CanStandAt right_rule (suc k) s → IsComputed right_rule (suc k) s
-at_right zero s h = subst (IsComputed right_rule 1) (some_same Left s h) (by_rule, quotient, quotient_in_force)
+at_right zero s h = subst (IsComputed right_rule 1) (same_Some Left s h) (by_rule, quotient, quotient_in_force)
 at_right (suc k) s h = cc
 
 inherited : (r : RuleItem) (k s a : ℕ) → Contains spec.rules r → CanStandAt r (suc k) s → Has spec s a → HasComputation spec r (suc k) s (Inherited a)
@@ -76,12 +76,12 @@ inherited_kind r k s a m can has = subst (λ a. HasKind spec s a kind.Inherited)
     (every (λ (r : RuleItem). CanStandAt r (suc k) s → HasKind spec s i kind.Inherited) spec.rules (top k, ((λ h. absurd (at_left k s h)), (right k, tt))) r m can)
   where
     top : (k : ℕ) → CanStandAt top_rule (suc k) s → HasKind spec s i kind.Inherited
-    top zero h = subst (λ s. HasKind spec s i kind.Inherited) (some_same Left s h) kind_left
-    top (suc zero) h = subst (λ s. HasKind spec s i kind.Inherited) (some_same Right s h) kind_right
+    top zero h = subst (λ s. HasKind spec s i kind.Inherited) (same_Some Left s h) kind_left
+    top (suc zero) h = subst (λ s. HasKind spec s i kind.Inherited) (same_Some Right s h) kind_right
     top (suc (suc k)) h = cc
 
     right : (k : ℕ) → CanStandAt right_rule (suc k) s → HasKind spec s i kind.Inherited
-    right zero h = subst (λ s. HasKind spec s i kind.Inherited) (some_same Left s h) kind_left
+    right zero h = subst (λ s. HasKind spec s i kind.Inherited) (same_Some Left s h) kind_left
     right (suc k) h = cc
 
 uncomputed : (r : RuleItem) (a : ℕ) → Contains spec.rules r → ¬ HasComputation spec r 0 (left_of r) (Synthesized a)

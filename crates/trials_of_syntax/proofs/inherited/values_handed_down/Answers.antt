@@ -23,7 +23,7 @@ use Rattle.lido_syntax.proofs.ExpressionLemmas.{value-Call}
 use Rattle.lido_syntax.proofs.MessageLemmas.{message_listed}
 use Rattle.trials_of_syntax.specs.HandedDown.{spec, tree, rows, handed, of_the_sibling, of_the_child, zero_divisor, top_rule, left_rule, right_rule, three, five, quotient, out, Left, Right, i}
 use Rattle.trials_of_syntax.specs.Writing.{env}
-use Rattle.trials_of_syntax.proofs.Members.{some_same}
+use Rattle.trials_of_syntax.proofs.Members.{same_Some}
 use Rattle.trials_of_syntax.proofs.Tables.{each_row, each_value}
 use Rattle.trials_of_syntax.proofs.HandedDownLemmas.{by_node, only_handed, int_handed, has_left, has_right, type_left, computed, three_in_force, quotient_in_force, right_inherits, reaches_right, reaches_no_left, ReadsNoTail, no_tail_in_three, no_tail_in_five, no_tail_in_quotient, no_tail_in_out}
 use Rattle.trials_of_syntax.proofs.inherited.values_handed_down.Goals as goal
@@ -45,7 +45,7 @@ node_of (Bad o) = o.node
 node_of _ = 0
 
 other_fault : ¬ (Some (Bad (zero_divisor 3 4)) ≡ Some (Bad (zero_divisor 2 4)))
-other_fault e = let same : 3 ≡ 2 = ap node_of (some_same (Bad (zero_divisor 3 4)) (Bad (zero_divisor 2 4)) e) in absurd (omega (arith, same))
+other_fault e = let same : 3 ≡ 2 = ap node_of (same_Some (Bad (zero_divisor 3 4)) (Bad (zero_divisor 2 4)) e) in absurd (omega (arith, same))
 
 module _ (sets : Sets spec) where
   domain : (m : ℕ) (slot : Slot) → IsSome (handed m slot) ↔ IsInstance spec sets env tree m slot

@@ -12,7 +12,7 @@ use Rattle.lido_syntax.specs.Nodes.{IsAt, HasSymbol}
 use Rattle.lido_syntax.specs.Fitting.{IsItem, IsElement, IsFitting}
 use Rattle.lido_syntax.specs.Fitting as fitting
 use Rattle.trials_of_syntax.specs.SumOfItems.{spec, tree, empty_tree, number_in_a_list, item_at_the_root, item_without_a_number, top_rule, item_rule, Top, Item, Num}
-use Rattle.trials_of_syntax.proofs.Members.{some_same}
+use Rattle.trials_of_syntax.proofs.Members.{same_Some}
 use Rattle.trials_of_syntax.proofs.RulesOnly.{rule_of}
 use Rattle.trials_of_syntax.proofs.SumOfItemsLemmas.{by_node}
 use Rattle.trials_of_syntax.proofs.whole.fitting_trees.Goals as goal
@@ -52,7 +52,7 @@ elements (suc (suc k)) d h = absurd (omega arith)
 
 -- a tree of one node, whose rule this is
 alone : (r : RuleItem) → IsAt spec empty_tree 0 r → r ≡ top_rule
-alone r at = sym (some_same _ _ (rule_of spec.rules spec.attrs spec.terms spec.chains empty_tree 0 r at))
+alone r at = sym (same_Some _ _ (rule_of spec.rules spec.attrs spec.terms spec.chains empty_tree 0 r at))
 
 empty : IsFitting spec empty_tree
 empty = record {
@@ -82,7 +82,7 @@ number_refused : ¬ IsFitting spec number_in_a_list
 number_refused f = let x = f.lists 0 top_rule (0, refl, refl) refl 0 (Child 0) (omega arith) in cc (x.2)
 
 root_refused : ¬ IsFitting spec item_at_the_root
-root_refused f = let same : item_rule ≡ f.root.2.0 = some_same _ _ (rule_of spec.rules spec.attrs spec.terms spec.chains item_at_the_root 0 f.root.2.0 f.root.2.1) in
+root_refused f = let same : item_rule ≡ f.root.2.0 = same_Some _ _ (rule_of spec.rules spec.attrs spec.terms spec.chains item_at_the_root 0 f.root.2.0 f.root.2.1) in
     let item : Item ≡ f.root.0 = subst (λ r. left_of r ≡ f.root.0) (sym same) f.root.2.2 in
     f.root.1.1 (subst (λ s. IsOnRightSide spec s) item refl)
 

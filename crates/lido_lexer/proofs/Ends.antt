@@ -1,10 +1,10 @@
 -- The end of a comment, byte by byte. Its two bytes are variables here.
 use Rattle.std.proofs.Common.{◌≡◌, ◌≢◌, ℕ, ◌+◌, ◌<◌, ◌≤◌, Bool, true, false, ◌==◌, ◌&&◌, if◌then◌else◌, List, [], ◌∷◌, ◌++◌, length, drop, get_or, Option, Some, None, refl, ap, sym, ◌∙◌, subst, arith, add-one, ◌⊎◌, inl, inr}
+use Rattle.std.proofs.lemmas.Option.{same_Some}
 use Rattle.std.proofs.Math.Seq.{drop-cons}
 use Rattle.std.proofs.lemmas.List.{length-append, drop_all}
 use Rattle.lido_lexer.specs.Gaps.{EndsFirst}
 use Rattle.lido_lexer.proofs.Lists.{head_of, tail_of}
-use Rattle.lido_lexer.proofs.Options.{held}
 use Rattle.lido_lexer.proofs.BytesLemmas.{same, differ, unequal}
 
 module _ (s t : ℕ) where
@@ -141,7 +141,7 @@ pub comment_back : {bytes rest : List ℕ} → EndsFirst bytes rest → past_com
 comment_back {bytes} {rest} ends = ends_back 42 47 (star_slash 42 47 refl refl) false bytes rest (from_first ends)
 
 pub one_end : {bytes rest other : List ℕ} → EndsFirst bytes rest → EndsFirst bytes other → rest ≡ other
-one_end a b = held (sym (comment_back a) ∙ comment_back b)
+one_end a b = same_Some _ _ (sym (comment_back a) ∙ comment_back b)
 
 -- a star and a slash: the comment ends
 pub ends_at : (bytes : List ℕ) (i : ℕ) (star : Bool) → i < length bytes → past_comment star (drop i bytes) ≡ past_comment false bytes

@@ -1,5 +1,7 @@
 -- Tokens and pieces between them, by their first byte.
 use Rattle.std.proofs.Common.{◌≡◌, ℕ, ℤ, ◌<◌, Bool, true, false, cond, ◌==◌, ◌||◌, if◌then◌else◌, List, [], ◌∷◌, ◌++◌, length, drop, refl, ap, sym, ◌∙◌, subst, arith, true≢false, ◌⊎◌, inl, inr}
+use Rattle.std.proofs.lemmas.Bool.{or_cases}
+use Rattle.std.proofs.lemmas.Option.{same_Some, none-some}
 use Rattle.std.specs.List.{take_while}
 use Rattle.std.proofs.lemmas.Bool.Decides.{nat_tests}
 use Rattle.std.proofs.lemmas.List.Sums.{take_while-cons}
@@ -12,7 +14,6 @@ use Rattle.lido_lexer.specs.Tokens.{Shown, Word, Key, Int, Str, Literal, Sign, I
 use Rattle.lido_lexer.specs.declared.sign.Sign.{Sign as Signs}
 use Rattle.lido_lexer.specs.declared.sign.Sign.TheVariants.{Produces, Arrow, AndAnd, OrOr, EqEq, NotEq, LessEq, GreaterEq, Colon, Semicolon, Comma, Dot, ParenOpen, ParenClose, BracketOpen, BracketClose, BraceOpen, BraceClose, Equal, Plus, Minus, Star, Slash, Percent, Bang, Less, Greater, Bar, Dollar}
 use Rattle.lido_lexer.proofs.Lists.{head_of, tail_of}
-use Rattle.lido_lexer.proofs.Options.{held, none_some}
 use Rattle.lido_lexer.proofs.BytesLemmas.{same, skip, chosen}
 use Rattle.lido_lexer.proofs.Ends.{one_end}
 use Rattle.lido_lexer.proofs.PartsLemmas.{one_part, quote_no_part}
@@ -62,10 +63,6 @@ digits_class_by b bytes false is some = absurd (omega (arith, some))
 digits_class : (bytes : List ℕ) → 0 < length (take_while is_digit bytes) → class_of bytes ≡ 2
 digits_class [] some = absurd (omega (arith, some))
 digits_class (b ∷ bytes) some = digits_class_by b bytes (is_digit b) refl (subst (λ (l : List ℕ). 0 < length l) (take_while-cons is_digit b bytes) some)
-
-or_cases : (a b : Bool) → (a || b) ≡ true → (a ≡ true) ⊎ (b ≡ true)
-or_cases true b is = inl refl
-or_cases false b is = inr is
 
 white_class_at : (b k : ℕ) → (b == k) ≡ true → class k ≡ 6 → class b ≡ 6
 white_class_at b k test is = ap class (same test) ∙ is
@@ -152,7 +149,7 @@ one_literal s t =
 
 one_sign : {bytes rest other : List ℕ} {a b : Signs} → IsSign bytes a rest → IsSign bytes b other → (a ≡ b) × (rest ≡ other)
 one_sign {bytes} s t =
-    let same = held (sym s.longest ∙ t.longest) in
+    let same = same_Some _ _ (sym s.longest ∙ t.longest) in
     (same, s.behind ∙ ap (λ (sign : Signs). drop (length (sign_spelling sign)) bytes) same ∙ sym t.behind)
 
 one_name : {bytes a b rest other : List ℕ} → IsName bytes a rest → IsName bytes b other → (a ≡ b) × (rest ≡ other)
@@ -160,9 +157,9 @@ one_name s t = (s.all ∙ sym t.all, s.after ∙ sym t.after)
 
 pub one_front : (a b : Shown) (bytes rest other : List ℕ) → IsFront bytes a rest → IsFront bytes b other → (a ≡ b) × (rest ≡ other)
 one_front (Word x) (Word y) bytes rest other s t = let e = one_name s.0 t.0 in (ap Word e.0, e.1)
-one_front (Word x) (Key k) bytes rest other s t = absurd (none_some (sym s.1 ∙ ap keyword_of (one_name s.0 t.1).0 ∙ t.2))
-one_front (Key k) (Word x) bytes rest other s t = absurd (none_some (sym t.1 ∙ ap keyword_of (one_name t.0 s.1).0 ∙ s.2))
-one_front (Key k) (Key l) bytes rest other s t = let e = one_name s.1 t.1 in (ap Key (held (sym s.2 ∙ ap keyword_of e.0 ∙ t.2)), e.1)
+one_front (Word x) (Key k) bytes rest other s t = absurd (none-some _ (sym s.1 ∙ ap keyword_of (one_name s.0 t.1).0 ∙ t.2))
+one_front (Key k) (Word x) bytes rest other s t = absurd (none-some _ (sym t.1 ∙ ap keyword_of (one_name t.0 s.1).0 ∙ s.2))
+one_front (Key k) (Key l) bytes rest other s t = let e = one_name s.1 t.1 in (ap Key (same_Some _ _ (sym s.2 ∙ ap keyword_of e.0 ∙ t.2)), e.1)
 one_front (Int x) (Int y) bytes rest other s t = (ap Int (s.value ∙ sym t.value), s.after ∙ sym t.after)
 one_front (Str x) (Str y) bytes rest other s t = let e = one_string s t in (ap Str e.0, e.1)
 one_front (Literal x) (Literal y) bytes rest other s t = let e = one_literal s t in (ap Literal e.0, e.1)

@@ -1,12 +1,12 @@
 -- The parts of a string.
 use Rattle.std.proofs.Common.{◌≡◌, ◌≢◌, ℕ, ◌<◌, ◌≤◌, Bool, true, false, cond, ◌==◌, List, [], ◌∷◌, ◌++◌, length, take, drop, Some, None, refl, ap, sym, ◌∙◌, subst, arith, true≢false, ◌⊎◌, inl, inr, append_assoc, append-nil}
+use Rattle.std.proofs.lemmas.Option.{same_Some, none-some}
 use Rattle.std.specs.List.{take_while}
 use Rattle.std.proofs.lemmas.Bool.Decides.{nat_tests}
 use Rattle.std.proofs.lemmas.List.Sums.{take_while-cons}
 use Rattle.lido_lexer.specs.Bytes.{is_octal, is_plain, octal_front, value_in}
 use Rattle.lido_lexer.specs.Tokens.{IsPart, plain, escape, octal, IsQuoted, escaped}
 use Rattle.lido_lexer.proofs.Lists.{head_of, tail_of}
-use Rattle.lido_lexer.proofs.Options.{held, none_some}
 use Rattle.lido_lexer.proofs.BytesLemmas.{unequal, skip}
 
 abbrev IsEscape : List ℕ → ℕ → List ℕ → Type 0
@@ -43,7 +43,7 @@ no_octal_by letter more false is meant =
 -- no digit stands where a letter with a meaning does
 no_octal : {letter byte : ℕ} {inner rest : List ℕ} → inner ≡ letter ∷ rest → escaped letter ≡ Some byte → 0 < length (octal_front inner) → ⊥
 no_octal {letter} {byte} {inner} {rest} at meant some =
-    let none : length (octal_front (letter ∷ rest)) ≡ 0 = no_octal_by letter rest (is_octal letter) refl (λ e. none_some (sym e ∙ meant)) in
+    let none : length (octal_front (letter ∷ rest)) ≡ 0 = no_octal_by letter rest (is_octal letter) refl (λ e. none-some _ (sym e ∙ meant)) in
     let e = ap (λ (l : List ℕ). length (octal_front l)) at in
     omega (arith, none, e, some)
 
@@ -87,7 +87,7 @@ quote_no_part at it = other_no_part at refl (λ (e : 34 ≡ 92). omega arith) it
 -- ---- one part
 
 one_backslash : {inner rest other : List ℕ} {a b : ℕ} → IsEscape inner a rest ⊎ IsOctal inner a rest → IsEscape inner b other ⊎ IsOctal inner b other → (a ≡ b) × (rest ≡ other)
-one_backslash (inl (x, is, meant)) (inl (y, also, meant')) = (held (sym meant ∙ ap escaped (head_of (sym is ∙ also)) ∙ meant'), tail_of (sym is ∙ also))
+one_backslash (inl (x, is, meant)) (inl (y, also, meant')) = (same_Some _ _ (sym meant ∙ ap escaped (head_of (sym is ∙ also)) ∙ meant'), tail_of (sym is ∙ also))
 one_backslash (inl (x, is, meant)) (inr (some, value, small, rest_is)) = absurd (no_octal is meant some)
 one_backslash (inr (some, value, small, rest_is)) (inl (x, is, meant)) = absurd (no_octal is meant some)
 one_backslash (inr (some, value, small, rest_is)) (inr (some', value', small', rest_is')) = (value ∙ sym value', rest_is ∙ sym rest_is')

@@ -1,7 +1,7 @@
 -- A descriptor denotes one text at most, and keeps it where deposits and rooms are added.
 use Rattle.std.specs.Prelude.{Contains}
 use Rattle.std.proofs.Common.{◌≡◌, ℕ, ◌+◌, List, [], ◌∷◌, ◌++◌, Some, length, map, refl, sym, ap, subst, ◌∙◌, arith, append_assoc, slice_get, slice_set, zero, suc}
-use Rattle.std.proofs.lemmas.Option.{none-some}
+use Rattle.std.proofs.lemmas.Option.{none-some, same_Some}
 use Rattle.lido_base.specs.declared.value.Value.{Value}
 use Rattle.lido_base.specs.declared.value.Value.TheVariants as value
 use Rattle.lido_base.specs.declared.value.Desc.{Desc}
@@ -22,13 +22,10 @@ same_place (x ∷ before) (y ∷ other) after behind d e p q =
     let size : length x.args ≡ length y.args = ap (λ z. length z.args) same in
     same_place before other after behind d e rest (omega arith)
 
-some_inj : {X : Type 0} {x y : X} → Some x ≡ Some y → x ≡ y
-some_inj e = cc
-
 -- a descriptor is that of one deposit
 pub one_deposit : (rooms : List RoomState) (d : Desc) (a b : Deposit) → IsAt rooms d a → IsAt rooms d b → a ≡ b
 one_deposit rooms d a b p q =
-    let same : p.room ≡ q.room = some_inj (sym p.in_room ∙ q.in_room) in
+    let same : p.room ≡ q.room = same_Some _ _ (sym p.in_room ∙ q.in_room) in
     let parts : p.before ++ a ∷ p.after ≡ q.before ++ b ∷ q.after = sym p.parts ∙ ap (λ r. r.deposits) same ∙ q.parts in
     same_place p.before q.before p.after q.after a b parts (omega (arith, p.place, q.place))
 
@@ -62,7 +59,7 @@ module _ (texts : List (List ℕ)) (patterns : List Pattern) (rooms : List RoomS
       let that : deposit ≡ other = one_deposit rooms d deposit other at (subst (λ x. IsAt rooms x other) (sym same) there) in
       let agree : map (read_by texts reading) deposit.args ≡ map (read_by texts others) deposit.args
       = same_reading texts reading others deposit.args (λ x m. one x m (others x) (below x (subst (λ y. Contains y.args (value.Text x)) that m))) in
-      some_inj (sym is ∙ ap (λ a. meaning texts patterns deposit.piece a) agree
+      same_Some _ _ (sym is ∙ ap (λ a. meaning texts patterns deposit.piece a) agree
       ∙ ap (λ y. meaning texts patterns y.piece (map (read_by texts others) y.args)) that ∙ made)
 
   empty_text : (d : Desc) (u : List ℕ) → d ≡ record { room = 0; node = 0; len = 0 } → Denotes texts patterns rooms d u → [] ≡ u
@@ -102,7 +99,7 @@ append_nil (x ∷ xs) = ap (λ l. x ∷ l) (append_nil xs)
 pub one_room_grew : (rooms : List RoomState) (i : ℕ) (room grown : RoomState) (more : List Deposit) → slice_get rooms i ≡ Some room
     → grown.deposits ≡ room.deposits ++ more → HaveGrown rooms (slice_set rooms i grown)
 one_room_grew [] i room grown more here is k r at = absurd (none-some _ at)
-one_room_grew (q ∷ rooms) zero room grown more here is zero r at = (grown, refl, (more, is ∙ ap (λ z. z.deposits ++ more) (some_inj (sym here ∙ at))))
+one_room_grew (q ∷ rooms) zero room grown more here is zero r at = (grown, refl, (more, is ∙ ap (λ z. z.deposits ++ more) (same_Some _ _ (sym here ∙ at))))
 one_room_grew (q ∷ rooms) zero room grown more here is (suc k) r at = (r, at, ([], append_nil r.deposits))
 one_room_grew (q ∷ rooms) (suc i) room grown more here is zero r at = (r, at, ([], append_nil r.deposits))
 one_room_grew (q ∷ rooms) (suc i) room grown more here is (suc k) r at = one_room_grew rooms i room grown more here is k r at

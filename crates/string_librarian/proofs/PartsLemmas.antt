@@ -1,5 +1,6 @@
 -- What a piece makes is what its parts print.
 use Rattle.std.proofs.Common.{◌≡◌, ℕ, List, [], ◌∷◌, ◌++◌, Option, Some, None, slice_get, refl, zero, suc, Bool, true, false, not, nat_eq, length, map, ap, subst, sym, ◌∙◌, append-nil, unwrap_or, arith, eqb-true}
+use Rattle.std.proofs.lemmas.Option.{same_Some}
 use Rattle.std.specs.Fmt.{signed_decimal}
 use Rattle.lido_base.specs.declared.pattern.Pattern.{Pattern}
 use Rattle.lido_base.specs.declared.pattern.Piece.{Piece}
@@ -18,9 +19,6 @@ use Rattle.lido_base.proofs.EquationsLemmas.{contains-later, contains-here}
 use Rattle.string_librarian.specs.Denotes.{meaning, read_by}
 use Rattle.string_librarian.specs.Parts.{parts_of, parts_bytes, argument_of, is_empty, is_full, HasLengths}
 
-held : {X : Type 0} {x y : X} → Some x ≡ Some y → x ≡ y
-held e = cc
-
 module _ (texts : List (List ℕ)) (patterns : List Pattern) where
   commute : (args : List Plain) (o : Option Pattern)
       → (elim o [ None ↦ [] | Some pattern ↦ parts_bytes texts args pattern.parts ]) ≡ parts_bytes texts args (elim o [ None ↦ [] | Some pattern ↦ pattern.parts ])
@@ -31,10 +29,10 @@ module _ (texts : List (List ℕ)) (patterns : List Pattern) where
   pattern_parts k args = commute args (slice_get patterns k)
 
   pub meaning-parts : (p : Piece) (args : List Plain) (bytes : List ℕ) → meaning texts patterns p args ≡ Some bytes → bytes ≡ parts_bytes texts args (parts_of patterns p)
-  meaning-parts piece.Numb (Int z ∷ []) bytes e = sym (held e) ∙ sym (append-nil (signed_decimal z))
-  meaning-parts piece.AsIs (Str s ∷ []) bytes e = sym (held e) ∙ sym (append-nil s)
-  meaning-parts piece.Seq (Text a ∷ Text b ∷ []) bytes e = sym (held e) ∙ ap (λ l. a ++ l) (sym (append-nil b))
-  meaning-parts (piece.Pattern k) args bytes e = sym (held e) ∙ pattern_parts k args
+  meaning-parts piece.Numb (Int z ∷ []) bytes e = sym (same_Some _ _ e) ∙ sym (append-nil (signed_decimal z))
+  meaning-parts piece.AsIs (Str s ∷ []) bytes e = sym (same_Some _ _ e) ∙ sym (append-nil s)
+  meaning-parts piece.Seq (Text a ∷ Text b ∷ []) bytes e = sym (same_Some _ _ e) ∙ ap (λ l. a ++ l) (sym (append-nil b))
+  meaning-parts (piece.Pattern k) args bytes e = sym (same_Some _ _ e) ∙ pattern_parts k args
   meaning-parts _ _ bytes e = cc
 
 module _ (texts : List (List ℕ)) (reading : Desc → List ℕ) where

@@ -2,6 +2,7 @@
 use Rattle.std.specs.Prelude.{Contains}
 use Rattle.std.specs.List.{list_all}
 use Rattle.std.proofs.Common.{◌≡◌, ℕ, zero, suc, ◌+◌, ◌-◌, ◌<◌, ◌≤◌, Bool, true, false, not, ◌&&◌, ◌||◌, if◌then◌else◌, nat_eq, List, [], ◌∷◌, ◌++◌, Option, Some, None, length, map, drop, flat_map, slice_get, refl, sym, ap, subst, ◌∙◌, arith, eqb-true, length-append, get_or}
+use Rattle.std.proofs.lemmas.Option.{same_Some}
 use Rattle.std.proofs.lemmas.List.{drop_more, drop_all}
 use Rattle.lido_base.specs.declared.value.Value.{Value}
 use Rattle.lido_base.specs.declared.value.Value.TheVariants as value
@@ -22,9 +23,6 @@ use Rattle.string_librarian.proofs.DenotesLemmas.{text_length}
 use Rattle.string_librarian.proofs.PartsLemmas.{meaning-parts, read-argument, text_among, all_full}
 use Rattle.string_librarian.proofs.PrintingLemmas.{steps_last}
 
-some_inj : {X : Type 0} {x y : X} → Some x ≡ Some y → x ≡ y
-some_inj e = cc
-
 behind : (before : List Deposit) (d : Deposit) (after : List Deposit) → deposit_behind (before ++ d ∷ after) (cells_of before) ≡ Some d
 behind [] d after = refl
 behind (b ∷ bs) d after =
@@ -34,7 +32,7 @@ behind (b ∷ bs) d after =
 
 room_of : (o : Option RoomState) (room : RoomState) → o ≡ Some room → (elim o [ None ↦ [] | Some r ↦ r.deposits ]) ≡ room.deposits
 room_of None room e = cc
-room_of (Some r) room e = ap (λ x. x.deposits) (some_inj e)
+room_of (Some r) room e = ap (λ x. x.deposits) (same_Some _ _ e)
 
 -- the deposit that a descriptor names is found
 pub deposit_of-at : (rooms : List RoomState) (d : Desc) (deposit : Deposit) → IsAt rooms d deposit → deposit_of rooms d ≡ Some deposit
@@ -60,7 +58,7 @@ keep false braces bytes h = refl
 module _ (rooms : List RoomState) (patterns : List Pattern) where
   given : (o : Option Deposit) (d : Deposit) (F : Deposit → ℕ) → o ≡ Some d → (elim o [ None ↦ 1 | Some x ↦ F x ]) ≡ F d
   given None d F e = cc
-  given (Some x) d F e = ap F (some_inj e)
+  given (Some x) d F e = ap F (same_Some _ _ e)
 
   -- the steps of a deposit that is there are those of its parts
   pub rest_steps-at : (below : Desc → ℕ) (p : Pending) (d : Deposit) → IsAt rooms p.desc d → rest_steps rooms patterns below p ≡ parts_steps below d.args (drop p.next (parts_of patterns d.piece))

@@ -3,7 +3,7 @@
 use Rattle.std.specs.Prelude.{Contains}
 use Rattle.std.specs.List.{IsDistinct, AllByRecursion, list_any}
 use Rattle.std.proofs.Common.{◌≡◌, ℕ, zero, suc, ◌+◌, ◌-◌, ◌<◌, ◌≤◌, Bool, true, false, eqb, ◌||◌, List, [], ◌∷◌, ◌++◌, Some, length, map, slice_get, refl, sym, ap, subst, ◌∙◌, arith, eqb-true}
-use Rattle.std.proofs.lemmas.Option.{none-some}
+use Rattle.std.proofs.lemmas.Option.{none-some, same_Some}
 use Rattle.std.proofs.lemmas.Map.Steps.{length-le_from_distinct_below}
 use Rattle.std.proofs.lemmas.List.{length-map}
 use Rattle.lido_base.specs.declared.value.Value.TheVariants as value
@@ -14,9 +14,6 @@ use Rattle.string_librarian.specs.Rooms.{RoomState, Deposit, IsAt, cells_of, all
 use Rattle.string_librarian.specs.Denotes.{Denotes, empty, built}
 use Rattle.string_librarian.specs.Printing.{IsBelow, direct, deeper, IsPlaced, AreBelow, IsLine}
 use Rattle.string_librarian.proofs.DenotesLemmas.{same_place, one_deposit}
-
-some_inj : {X : Type 0} {x y : X} → Some x ≡ Some y → x ≡ y
-some_inj e = cc
 
 -- one step further down
 pub below_more : {rooms : List RoomState} {d e f : Desc} {deposit : Deposit} → IsBelow rooms d e → IsAt rooms e deposit → Contains deposit.args (value.Text f) → IsBelow rooms d f
@@ -56,15 +53,15 @@ place (q ∷ rooms) (suc r) n = cells_of q.deposits + place rooms r n
 
 place_below : (rooms : List RoomState) (r n : ℕ) (room : RoomState) → slice_get rooms r ≡ Some room → n < cells_of room.deposits → place rooms r n < all_cells rooms
 place_below [] r n room e h = absurd (none-some _ e)
-place_below (q ∷ rooms) zero n room e h = let s : cells_of q.deposits ≡ cells_of room.deposits = ap (λ x. cells_of x.deposits) (some_inj e) in omega arith
+place_below (q ∷ rooms) zero n room e h = let s : cells_of q.deposits ≡ cells_of room.deposits = ap (λ x. cells_of x.deposits) (same_Some _ _ e) in omega arith
 place_below (q ∷ rooms) (suc r) n room e h = let k = place_below rooms r n room e h in omega arith
 
 one_place : (rooms : List RoomState) (r s n m : ℕ) (a b : RoomState) → slice_get rooms r ≡ Some a → n < cells_of a.deposits → slice_get rooms s ≡ Some b → m < cells_of b.deposits
     → place rooms r n ≡ place rooms s m → (r ≡ s) × (n ≡ m)
 one_place [] r s n m a b e h f k p = absurd (none-some _ e)
 one_place (q ∷ rooms) zero zero n m a b e h f k p = (refl, p)
-one_place (q ∷ rooms) zero (suc s) n m a b e h f k p = let t : cells_of q.deposits ≡ cells_of a.deposits = ap (λ x. cells_of x.deposits) (some_inj e) in absurd (omega arith)
-one_place (q ∷ rooms) (suc r) zero n m a b e h f k p = let t : cells_of q.deposits ≡ cells_of b.deposits = ap (λ x. cells_of x.deposits) (some_inj f) in absurd (omega arith)
+one_place (q ∷ rooms) zero (suc s) n m a b e h f k p = let t : cells_of q.deposits ≡ cells_of a.deposits = ap (λ x. cells_of x.deposits) (same_Some _ _ e) in absurd (omega arith)
+one_place (q ∷ rooms) (suc r) zero n m a b e h f k p = let t : cells_of q.deposits ≡ cells_of b.deposits = ap (λ x. cells_of x.deposits) (same_Some _ _ f) in absurd (omega arith)
 one_place (q ∷ rooms) (suc r) (suc s) n m a b e h f k p =
     let c = one_place rooms r s n m a b e h f k (omega arith) in (ap suc c.0, c.1)
 
@@ -86,7 +83,7 @@ one_number : (rooms : List RoomState) (d e : Desc) (a b : Deposit) → IsAt room
 one_number rooms d e a b p q h =
     let c = one_place rooms d.room e.room (d.node - 1) (e.node - 1) p.room q.room p.in_room (within_room p) q.in_room (within_room q) h in
     let node : d.node ≡ e.node = omega (arith, p.place, q.place, c.1) in
-    let parts : p.before ++ a ∷ p.after ≡ q.before ++ b ∷ q.after = sym p.parts ∙ ap (λ r. r.deposits) (some_inj (sym p.in_room ∙ ap (λ r. slice_get rooms r) c.0 ∙ q.in_room)) ∙ q.parts in
+    let parts : p.before ++ a ∷ p.after ≡ q.before ++ b ∷ q.after = sym p.parts ∙ ap (λ r. r.deposits) (same_Some _ _ (sym p.in_room ∙ ap (λ r. slice_get rooms r) c.0 ∙ q.in_room)) ∙ q.parts in
     let same : a ≡ b = same_place p.before q.before p.after q.after a b parts (omega (arith, p.place, q.place, node)) in
     let len : d.len ≡ e.len = p.same_len ∙ ap (λ x. x.len) same ∙ sym q.same_len in
     same_desc d.room e.room d.node e.node d.len e.len c.0 node len

@@ -1,10 +1,10 @@
 -- Texts of one room, as they are built.
 use Rattle.std.specs.Prelude.{Contains}
 use Rattle.std.proofs.Common.{◌≡◌, ◌∙◌, ◌⊎◌, ◌+◌, inl, inr, ℕ, List, [], ◌∷◌, ◌++◌, Some, length, slice_get, unwrap_or, refl, ap, sym, subst, arith}
-use Rattle.std.specs.Prelude.{slice_set, Bool, true, false, ◌&&◌, IsTrue, nat_eq, if◌then◌else◌}
+use Rattle.std.specs.Prelude.{slice_set, Bool, true, false, ◌&&◌, nat_eq, if◌then◌else◌}
 use Rattle.std.proofs.Common.{eqb-true, eq-eqb}
 use Rattle.std.proofs.lemmas.List.{length-append}
-use Rattle.std.proofs.lemmas.Bool.{cases_eq}
+use Rattle.std.proofs.lemmas.Bool.{and_parts}
 use Rattle.lido_base.specs.declared.value.Value.{Value}
 use Rattle.lido_base.specs.declared.value.Value.TheVariants as value
 use Rattle.lido_base.specs.declared.value.Desc.{Desc}
@@ -49,10 +49,6 @@ kept_by texts old new d same held earlier = record {
 same : Desc → Desc → Bool
 same d e = nat_eq d.room e.room && (nat_eq d.node e.node && nat_eq d.len e.len)
 
-both : (a b : Bool) → IsTrue (a && b) → IsTrue a × IsTrue b
-both true b h = (refl, h)
-both false b h = cc
-
 same-refl : (d : Desc) → same d d ≡ true
 unfolding same
 same-refl d = rw (eq-eqb d.room d.room refl, eq-eqb d.node d.node refl, eq-eqb d.len d.len refl) refl
@@ -60,7 +56,7 @@ same-refl d = rw (eq-eqb d.room d.room refl, eq-eqb d.node d.node refl, eq-eqb d
 same-is : (d e : Desc) → same d e ≡ true → d ≡ e
 unfolding same
 same-is d e h =
-    let a = both _ _ h in let b = both _ _ a.1 in
+    let a = and_parts _ _ h in let b = and_parts _ _ a.1 in
     λ j. record { room = eqb-true d.room e.room a.0 j; node = eqb-true d.node e.node b.0 j; len = eqb-true d.len e.len b.1 j }
 
 -- of two texts that are denoted, what each descriptor is read as

@@ -263,29 +263,6 @@ module _ (P : ℕ → ℕ → Holder → Comp → Type 0) (first : P 1 0 by_rule
 pub computed_at_right : (context : ℕ) (h : Holder) (c : Comp) → Computes spec tree 2 i context h c → (context ≡ 2) × (h ≡ by_symbol) × (c ≡ five)
 computed_at_right context h c computes = computed (λ m context h c. m ≡ 2 → (context ≡ 2) × (h ≡ by_symbol) × (c ≡ five)) (λ e. cc) (λ e. (refl, refl, refl)) (λ e. cc) 2 i c context h computes refl
 
--- no expression reads TAIL
-abbrev pub IsNoTail : Place → Type 0
-IsNoTail place.Tail = ⊥
-IsNoTail _ = Unit {0}
-
-abbrev pub ReadsNoTail : Comp → Type 0
-ReadsNoTail c = (x : Name) → ¬ Contains (reads c.value) (place.Tail, x)
-
-no_tail : (c : Comp) → AllByRecursion (λ (u : Use). IsNoTail u.0) (reads c.value) → ReadsNoTail c
-no_tail c all x m = every (λ (u : Use). IsNoTail u.0) (reads c.value) all (place.Tail, x) m
-
-pub no_tail_in_three : ReadsNoTail three
-no_tail_in_three = no_tail three tt
-
-pub no_tail_in_five : ReadsNoTail five
-no_tail_in_five = no_tail five tt
-
-pub no_tail_in_quotient : ReadsNoTail quotient
-no_tail_in_quotient = no_tail quotient (simp (reads-Call) (tt, tt))
-
-pub no_tail_in_out : ReadsNoTail out
-no_tail_in_out = no_tail out (simp (reads-Call) (tt, tt))
-
 not_true : (b : Bool) → b ≡ false → ¬ IsTrue b
 not_true true e h = cc
 not_true false e h = cc

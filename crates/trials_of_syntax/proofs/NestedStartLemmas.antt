@@ -1,15 +1,10 @@
 -- The nodes of the nested start, one by one, and parts of lists.
-use Rattle.std.specs.Prelude.{Contains, slice_get, option_and_then}
+use Rattle.std.specs.Prelude.{slice_get, option_and_then}
 use Rattle.std.specs.List.{AllByRecursion}
 use Rattle.std.proofs.Common.{◌≡◌, ℕ, zero, suc, ◌⊎◌, inl, inr, List, [], ◌∷◌, ◌++◌, Some, refl, arith, subst}
 use Rattle.lido_base.specs.Tree.{rule_at}
 use Rattle.lido_syntax.specs.declared.spec.Comp.{Comp}
-use Rattle.lido_syntax.specs.declared.spec.Name.{Name}
-use Rattle.lido_syntax.specs.declared.spec.Place.{Place}
-use Rattle.lido_syntax.specs.declared.spec.Place.TheVariants as place
 use Rattle.lido_syntax.specs.declared.spec.RuleItem.{RuleItem}
-use Rattle.lido_syntax.specs.Attributes.{Use, reads}
-use Rattle.lido_syntax.proofs.ExpressionLemmas.{reads-Call}
 use Rattle.lido_syntax.specs.Production.{left_of}
 use Rattle.lido_syntax.specs.Computation.{Goal, Holder, Start, Behind, by_rule, of_rule, InRule, IsRuleTarget}
 use Rattle.lido_syntax.specs.Nodes.{IsAt, InForceAt, HasInForce}
@@ -106,17 +101,6 @@ adjacent R (x ∷ y ∷ ys) all j m (b ∷ before) rest e = adjacent R (y ∷ ys
 pub only_last : (x m : ℕ) (before : List ℕ) → x ∷ [] ≡ before ++ m ∷ [] → x ≡ m
 only_last x m [] e = same_head x m [] [] e
 only_last x m (b ∷ before) e = absurd (none_at_end m before [] (same_rest x b [] (before ++ m ∷ []) e))
-
--- the next number reads no TAIL
-abbrev pub IsNoTail : Place → Type 0
-IsNoTail place.Tail = ⊥
-IsNoTail _ = Unit {0}
-
-pub no_tail_in_next : (p : Place) (x : Name) → Contains (reads next.value) (p, x) → IsNoTail p
-no_tail_in_next p x m = every (λ (u : Use). IsNoTail u.0) (reads next.value) all (p, x) m
-  where
-    all : AllByRecursion (λ (u : Use). IsNoTail u.0) (reads next.value)
-    all = simp (reads-Call) (tt, tt)
 
 pub no_start_inside : ¬ HasInForce spec tree 2 (Start no)
 no_start_inside (h, c, f) = at (starts 2 h c f).1

@@ -1,7 +1,6 @@
 -- The specification of the sum of a list's items, node by node and attribute by attribute.
 use Rattle.std.specs.Prelude.{Contains, slice_get, option_and_then}
 use Rattle.lido_base.specs.Tree.{rule_at}
-use Rattle.std.specs.List.{AllByRecursion}
 use Rattle.std.proofs.Common.{◌≡◌, ℕ, zero, suc, inl, [], ◌∷◌, Some, None, refl, arith, subst, sym, ◌∙◌}
 use Rattle.lido_base.specs.declared.kinds.Kind.{Kind}
 use Rattle.lido_base.specs.declared.kinds.Kind.TheVariants.{Synthesized, Inherited}
@@ -9,9 +8,6 @@ use Rattle.lido_base.specs.declared.value.ValueType.{ValueType}
 use Rattle.lido_base.specs.declared.value.ValueType.TheVariants as type
 use Rattle.lido_syntax.specs.declared.spec.Decl.{Decl}
 use Rattle.lido_syntax.specs.declared.spec.RuleItem.{RuleItem}
-use Rattle.lido_syntax.specs.declared.spec.Name.{Name}
-use Rattle.lido_syntax.specs.declared.spec.Place.{Place}
-use Rattle.lido_syntax.specs.declared.spec.Place.TheVariants as place
 use Rattle.lido_syntax.specs.Production.{name_of}
 use Rattle.lido_syntax.specs.Attributes.{Use, uses, reads, IsOnSide, Has, HasKind, HasType}
 use Rattle.lido_syntax.specs.Attributes as attributes
@@ -81,14 +77,3 @@ kind_number = attributes.by_side (not_declared_kind spec.rules spec.attrs spec.t
 
 pub type_number : HasType spec Item n type.Int
 type_number = attributes.by_attr (not_typed_by_symbol spec.rules spec.attrs spec.terms spec.chains Item n) (declaration n type.Int, (0, omega arith, refl), refl, refl)
-
--- the expression of the output reads no TAIL
-abbrev pub IsNoTail : Place → Type 0
-IsNoTail place.Tail = ⊥
-IsNoTail _ = Unit {0}
-
-pub no_tail_in_out : (p : Place) (x : Name) → Contains (reads out.value) (p, x) → IsNoTail p
-no_tail_in_out p x m = every (λ (u : Use). IsNoTail u.0) (reads out.value) all (p, x) m
-  where
-    all : AllByRecursion (λ (u : Use). IsNoTail u.0) (reads out.value)
-    all = simp (reads-Call) (tt, tt)

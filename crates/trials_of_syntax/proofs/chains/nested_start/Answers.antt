@@ -6,7 +6,6 @@ use Rattle.lido_base.specs.Plain.{Plain, Int, Void}
 use Rattle.lido_base.specs.Reach.{source}
 use Rattle.lido_base.specs.Tree.{from_children, children}
 use Rattle.lido_syntax.specs.declared.spec.Comp.{Comp}
-use Rattle.lido_syntax.specs.declared.spec.Place.TheVariants as place
 use Rattle.lido_syntax.specs.Sets.{Sets}
 use Rattle.lido_syntax.specs.Assignment.{Slot, Front, Behind}
 use Rattle.lido_base.specs.declared.value.ValueType.TheVariants as type
@@ -19,8 +18,9 @@ use Rattle.lido_syntax.proofs.ExpressionLemmas.{value-Call}
 use Rattle.trials_of_syntax.specs.Writing.{Row}
 use Rattle.trials_of_syntax.proofs.Tables.{each_row, none_from}
 use Rattle.trials_of_syntax.specs.NestedStart.{chain_row, env, spec, tree, counted, leaked, item_rule, next, all_lines, group_lines, Item, no}
-use Rattle.trials_of_syntax.proofs.NestedStartLemmas.{IsStartOf, IsLine, starts, start_at_top, start_at_group, assigns, next_in_force, adjacent, same_head, not_empty, none_at_end, only_last, no_tail_in_next, no_start_inside, group_unassigned}
+use Rattle.trials_of_syntax.proofs.NestedStartLemmas.{IsStartOf, IsLine, starts, start_at_top, start_at_group, assigns, next_in_force, adjacent, same_head, not_empty, none_at_end, only_last, no_start_inside, group_unassigned}
 use Rattle.trials_of_syntax.proofs.RulesOnly.{reaches-true}
+use Rattle.trials_of_syntax.proofs.ValueLemmas.{has_value}
 use Rattle.trials_of_syntax.proofs.chains.nested_start.Goals as goal
 
 abbrev rows : List Row
@@ -76,24 +76,24 @@ module _ (sets : Sets spec) where
   abbrev IsAssigned : ℕ → Comp → Type 0
   IsAssigned n comp = (v : Plain) × IsComputed spec sets env tree counted n by_rule comp v × (counted n (Behind no) ≡ Some v)
 
-  computed_at : (n : ℕ) (v : Plain) → IsAt spec tree n item_rule → v ≡ value_by spec sets env tree counted (λ c. Void) n by_rule item_rule next → IsComputed spec sets env tree counted n by_rule next v
-  computed_at n v at e = (item_rule, (λ c. Void), at, (λ c h. absurd (no_tail_in_next place.Tail h.0 h.1)), e)
+  computed_at : (n : ℕ) (v : Plain) → IsAt spec tree n item_rule → ((tail : ℕ → Plain) → value_by spec sets env tree counted tail n by_rule item_rule next ≡ v) → IsComputed spec sets env tree counted n by_rule next v
+  computed_at n v at comes = has_value spec sets env tree counted n by_rule item_rule at 4 next.value v comes
 
   next_1 : IsAssigned 1 next
   unfolding operate
-  next_1 = (Int (pos 2), computed_at 1 (Int (pos 2)) (1, refl, refl) (simp (value-Call spec sets env tree counted by_rule item_rule 4 1 (λ c. Void)) refl), refl)
+  next_1 = (Int (pos 2), computed_at 1 (Int (pos 2)) (1, refl, refl) (λ tail. simp (value-Call spec sets env tree counted by_rule item_rule 4 1 tail) refl), refl)
 
   next_4 : IsAssigned 4 next
   unfolding operate
-  next_4 = (Int (pos 11), computed_at 4 (Int (pos 11)) (1, refl, refl) (simp (value-Call spec sets env tree counted by_rule item_rule 4 4 (λ c. Void)) refl), refl)
+  next_4 = (Int (pos 11), computed_at 4 (Int (pos 11)) (1, refl, refl) (λ tail. simp (value-Call spec sets env tree counted by_rule item_rule 4 4 tail) refl), refl)
 
   next_5 : IsAssigned 5 next
   unfolding operate
-  next_5 = (Int (pos 12), computed_at 5 (Int (pos 12)) (1, refl, refl) (simp (value-Call spec sets env tree counted by_rule item_rule 4 5 (λ c. Void)) refl), refl)
+  next_5 = (Int (pos 12), computed_at 5 (Int (pos 12)) (1, refl, refl) (λ tail. simp (value-Call spec sets env tree counted by_rule item_rule 4 5 tail) refl), refl)
 
   next_6 : IsAssigned 6 next
   unfolding operate
-  next_6 = (Int (pos 3), computed_at 6 (Int (pos 3)) (1, refl, refl) (simp (value-Call spec sets env tree counted by_rule item_rule 4 6 (λ c. Void)) refl), refl)
+  next_6 = (Int (pos 3), computed_at 6 (Int (pos 3)) (1, refl, refl) (λ tail. simp (value-Call spec sets env tree counted by_rule item_rule 4 6 tail) refl), refl)
 
   assigned : (n : ℕ) (h : Holder) (comp : Comp) → InForceAt spec tree n (goals.Behind no) h comp → (v : Plain) × IsComputed spec sets env tree counted n h comp v × (counted n (Behind no) ≡ Some v)
   assigned n h comp force = let is = assigns n h comp force in

@@ -6,7 +6,6 @@ use Rattle.lido_base.specs.Plain.{Plain, Int, Void}
 use Rattle.lido_base.specs.Reach.{source}
 use Rattle.lido_base.specs.Tree.{from_children, children}
 use Rattle.lido_syntax.specs.declared.spec.Comp.{Comp}
-use Rattle.lido_syntax.specs.declared.spec.Place.TheVariants as place
 use Rattle.lido_syntax.specs.Sets.{Sets}
 use Rattle.lido_syntax.specs.Assignment.{Slot, Front, Behind}
 use Rattle.lido_base.specs.declared.value.ValueType.TheVariants as type
@@ -19,9 +18,10 @@ use Rattle.lido_syntax.proofs.ExpressionLemmas.{value-Call}
 use Rattle.trials_of_syntax.proofs.Tables.{each_row, none_from}
 use Rattle.trials_of_syntax.specs.NestedStart.{env, spec, top_rule, from_one, item_rule, next, all_lines, Item, no}
 use Rattle.trials_of_syntax.specs.NumberedList.{tree, rows, counted, stuck}
-use Rattle.trials_of_syntax.proofs.NestedStartLemmas.{adjacent, same_head, not_empty, none_at_end, no_tail_in_next}
+use Rattle.trials_of_syntax.proofs.NestedStartLemmas.{adjacent, same_head, not_empty, none_at_end}
 use Rattle.trials_of_syntax.proofs.NumberedListLemmas.{IsLine, starts, start_at_top, assigns, next_in_force}
 use Rattle.trials_of_syntax.proofs.RulesOnly.{reaches-true}
+use Rattle.trials_of_syntax.proofs.ValueLemmas.{has_value}
 use Rattle.trials_of_syntax.proofs.chains.numbered_list.Goals as goal
 
 in_tree : (n : ℕ) (slot : Slot) → IsSome (counted n slot) → n < 4
@@ -62,20 +62,20 @@ module _ (sets : Sets spec) where
   abbrev IsAssigned : ℕ → Comp → Type 0
   IsAssigned n comp = (v : Plain) × IsComputed spec sets env tree counted n by_rule comp v × (counted n (Behind no) ≡ Some v)
 
-  computed_at : (n : ℕ) (v : Plain) → IsAt spec tree n item_rule → v ≡ value_by spec sets env tree counted (λ c. Void) n by_rule item_rule next → IsComputed spec sets env tree counted n by_rule next v
-  computed_at n v at e = (item_rule, (λ c. Void), at, (λ c h. absurd (no_tail_in_next place.Tail h.0 h.1)), e)
+  computed_at : (n : ℕ) (v : Plain) → IsAt spec tree n item_rule → ((tail : ℕ → Plain) → value_by spec sets env tree counted tail n by_rule item_rule next ≡ v) → IsComputed spec sets env tree counted n by_rule next v
+  computed_at n v at comes = has_value spec sets env tree counted n by_rule item_rule at 4 next.value v comes
 
   next_1 : IsAssigned 1 next
   unfolding operate
-  next_1 = (Int (pos 2), computed_at 1 (Int (pos 2)) (1, refl, refl) (simp (value-Call spec sets env tree counted by_rule item_rule 4 1 (λ c. Void)) refl), refl)
+  next_1 = (Int (pos 2), computed_at 1 (Int (pos 2)) (1, refl, refl) (λ tail. simp (value-Call spec sets env tree counted by_rule item_rule 4 1 tail) refl), refl)
 
   next_2 : IsAssigned 2 next
   unfolding operate
-  next_2 = (Int (pos 3), computed_at 2 (Int (pos 3)) (1, refl, refl) (simp (value-Call spec sets env tree counted by_rule item_rule 4 2 (λ c. Void)) refl), refl)
+  next_2 = (Int (pos 3), computed_at 2 (Int (pos 3)) (1, refl, refl) (λ tail. simp (value-Call spec sets env tree counted by_rule item_rule 4 2 tail) refl), refl)
 
   next_3 : IsAssigned 3 next
   unfolding operate
-  next_3 = (Int (pos 4), computed_at 3 (Int (pos 4)) (1, refl, refl) (simp (value-Call spec sets env tree counted by_rule item_rule 4 3 (λ c. Void)) refl), refl)
+  next_3 = (Int (pos 4), computed_at 3 (Int (pos 4)) (1, refl, refl) (λ tail. simp (value-Call spec sets env tree counted by_rule item_rule 4 3 tail) refl), refl)
 
   assigned : (n : ℕ) (h : Holder) (comp : Comp) → InForceAt spec tree n (goals.Behind no) h comp → (v : Plain) × IsComputed spec sets env tree counted n h comp v × (counted n (Behind no) ≡ Some v)
   assigned n h comp force = let is = assigns n h comp force in

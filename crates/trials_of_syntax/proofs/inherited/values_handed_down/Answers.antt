@@ -5,7 +5,7 @@ use Rattle.lido_base.specs.declared.value.ValueType.{ValueType}
 use Rattle.lido_base.specs.declared.value.ValueType.TheVariants as type
 use Rattle.lido_base.specs.Operations.{operate, kept}
 use Rattle.lido_base.specs.Origins.{IsAtMost}
-use Rattle.lido_base.specs.Plain.{Plain, Int, Void, Bad}
+use Rattle.lido_base.specs.Plain.{Plain, Int, Bad}
 use Rattle.lido_base.specs.Tree.{from_children}
 use Rattle.lido_syntax.specs.declared.spec.Comp.{Comp}
 use Rattle.lido_syntax.specs.declared.spec.RuleItem.{RuleItem}
@@ -25,7 +25,8 @@ use Rattle.trials_of_syntax.specs.HandedDown.{spec, tree, rows, handed, of_the_s
 use Rattle.trials_of_syntax.specs.Writing.{env}
 use Rattle.trials_of_syntax.proofs.Members.{same_Some}
 use Rattle.trials_of_syntax.proofs.Tables.{each_row, each_value}
-use Rattle.trials_of_syntax.proofs.HandedDownLemmas.{by_node, only_handed, int_handed, has_left, has_right, type_left, computed, three_in_force, quotient_in_force, right_inherits, reaches_right, reaches_no_left, ReadsNoTail, no_tail_in_three, no_tail_in_five, no_tail_in_quotient, no_tail_in_out}
+use Rattle.trials_of_syntax.proofs.HandedDownLemmas.{by_node, only_handed, int_handed, has_left, has_right, type_left, computed, three_in_force, quotient_in_force, right_inherits, reaches_right, reaches_no_left}
+use Rattle.trials_of_syntax.proofs.ValueLemmas.{has_value}
 use Rattle.trials_of_syntax.proofs.inherited.values_handed_down.Goals as goal
 
 first : HasSymbol spec tree 1 Left
@@ -57,22 +58,22 @@ module _ (sets : Sets spec) where
       found (Front c) (h, k) = cc
       found (Behind c) (h, k) = cc
 
-  computed_at : (A : Assignment) (n : ℕ) (v : Plain) (h : Holder) (r : RuleItem) (c : Comp) → IsAt spec tree n r → ReadsNoTail c → v ≡ value_by spec sets env tree A (λ c. Void) n h r c → IsComputed spec sets env tree A n h c v
-  computed_at A n v h r c at none e = (r, (λ c. Void), at, (λ chain h. absurd (none h.0 h.1)), e)
+  computed_at : (A : Assignment) (n : ℕ) (v : Plain) (h : Holder) (r : RuleItem) (c : Comp) → IsAt spec tree n r → ((tail : ℕ → Plain) → value_by spec sets env tree A tail n h r c ≡ v) → IsComputed spec sets env tree A n h c v
+  computed_at A n v h r c at comes = has_value spec sets env tree A n h r at c.number c.value v comes
 
   -- at its context the computation has a value that the node's attribute keeps
   abbrev IsKept : ℕ → ℕ → Holder → Comp → Type 0
   IsKept m context h c = (v : Plain) × IsComputed spec sets env tree handed context h c v × (handed m (Attribute i) ≡ Some (kept type.Int v))
 
-  quotient_value : Bad (zero_divisor 2 4) ≡ value_by spec sets env tree handed (λ c. Void) 2 by_rule right_rule quotient
+  quotient_value : (tail : ℕ → Plain) → value_by spec sets env tree handed tail 2 by_rule right_rule quotient ≡ Bad (zero_divisor 2 4)
   unfolding operate
-  quotient_value = simp (value-Call spec sets env tree handed by_rule right_rule 4 2 (λ c. Void)) refl
+  quotient_value tail = simp (value-Call spec sets env tree handed by_rule right_rule 4 2 tail) refl
 
   values : (m a context : ℕ) (h : Holder) (c : Comp) → nodes.Computes spec tree m a context h c → IsKept m context h c
   values m a context h c computes = computed IsKept
-      (Int (pos 3), computed_at handed 0 (Int (pos 3)) by_rule top_rule three (0, refl, refl) no_tail_in_three refl, refl)
-      (Int (pos 5), computed_at handed 2 (Int (pos 5)) by_symbol right_rule five (2, refl, refl) no_tail_in_five refl, refl)
-      (Bad (zero_divisor 2 4), computed_at handed 2 (Bad (zero_divisor 2 4)) by_rule right_rule quotient (2, refl, refl) no_tail_in_quotient quotient_value, refl)
+      (Int (pos 3), computed_at handed 0 (Int (pos 3)) by_rule top_rule three (0, refl, refl) (λ tail. refl), refl)
+      (Int (pos 5), computed_at handed 2 (Int (pos 5)) by_symbol right_rule five (2, refl, refl) (λ tail. refl), refl)
+      (Bad (zero_divisor 2 4), computed_at handed 2 (Bad (zero_divisor 2 4)) by_rule right_rule quotient (2, refl, refl) quotient_value, refl)
       m a c context h computes
 
   kept_as : (m a context : ℕ) (ty : ValueType) (h : Holder) (c : Comp) → a ≡ i → ty ≡ type.Int → IsKept m context h c
@@ -106,12 +107,12 @@ module _ (sets : Sets spec) where
       refuse : ¬ ((v : Plain) × IsComputed spec sets env tree of_the_child 2 by_rule quotient v × (of_the_child 3 (Attribute i) ≡ Some (kept type.Int v)))
       refuse (v, (r, tail, at, tails, f), e) = other_fault (e ∙ ap (λ v. Some (kept type.Int v)) (f ∙ at_the_rule r tail at))
 
-  output_value : Bad (zero_divisor 0 2) ≡ value_by spec sets env tree handed (λ c. Void) 0 by_rule top_rule out
+  output_value : (tail : ℕ → Plain) → value_by spec sets env tree handed tail 0 by_rule top_rule out ≡ Bad (zero_divisor 0 2)
   unfolding operate from_children weight_of
-  output_value = simp (value-Call spec sets env tree handed by_rule top_rule 2 0 (λ c. Void), right_inherits sets, reaches_right sets, reaches_no_left sets) refl
+  output_value tail = simp (value-Call spec sets env tree handed by_rule top_rule 2 0 tail, right_inherits sets, reaches_right sets, reaches_no_left sets) refl
 
   output : IsOutput spec sets env tree handed (Bad (zero_divisor 0 2))
-  output = inl (out, (top_rule, (0, refl, refl), of_rule (refl, tt) ((1, omega arith, refl), tt)), computed_at handed 0 (Bad (zero_divisor 0 2)) by_rule top_rule out (0, refl, refl) no_tail_in_out output_value)
+  output = inl (out, (top_rule, (0, refl, refl), of_rule (refl, tt) ((1, omega arith, refl), tt)), computed_at handed 0 (Bad (zero_divisor 0 2)) by_rule top_rule out (0, refl, refl) output_value)
 
   -- of the two faults that at the root is the least
   least : (o : Origin) → WentWrong spec sets env tree handed (Bad (zero_divisor 0 2)) o → IsAtMost (zero_divisor 0 2) o

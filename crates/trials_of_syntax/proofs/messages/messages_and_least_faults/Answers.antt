@@ -56,7 +56,7 @@ module _ (z : ℕ) (v : Plain) (sets : Sets spec) where
   item = (1, refl, refl)
 
   output : (w : Plain) → ComesTo top_rule 0 2 out.value w → IsOutput spec sets env_of_messages (tree z) (numbered v) w
-  output w h = inl (out, (top_rule, top, of_rule (refl, tt) ((2, omega arith, refl), tt)), has_value spec sets env_of_messages (tree z) (numbered v) 0 top_rule top 2 out.value w h)
+  output w h = inl (out, (top_rule, top, of_rule (refl, tt) ((2, omega arith, refl), tt)), has_value spec sets env_of_messages (tree z) (numbered v) 0 by_rule top_rule top 2 out.value w h)
 
   note : Of 0 top_note (Str (codes "top"))
   note = gives_text spec sets env_of_messages (tree z) (numbered v) 0 top_rule top top_note Note (Str (codes "top")) refl (λ tail. refl)

@@ -143,10 +143,10 @@ module _ (sets : Sets spec) where
   next_2 B e tail = simp (value-Call spec sets env tree B by_rule x_rule 5 2 tail, e) refl
 
   computed_as : (B : Assignment) (m : ℕ) (r : RuleItem) (comp : Comp) (x : Plain) → IsAt spec tree m r → ComputesTo B m r comp x → IsComputed spec sets env tree B m by_rule comp x
-  computed_as B m r comp x at h = has_value spec sets env tree B m r at comp.number comp.value x h
+  computed_as B m r comp x at h = has_value spec sets env tree B m by_rule r at comp.number comp.value x h
 
   only_value : (B : Assignment) (m : ℕ) (r : RuleItem) (comp : Comp) (x y : Plain) → IsAt spec tree m r → ComputesTo B m r comp x → IsComputed spec sets env tree B m by_rule comp y → y ≡ x
-  only_value B m r comp x y at h computed = values.only_value spec sets env tree B m r at comp.number comp.value x y h computed
+  only_value B m r comp x y at h computed = values.only_value spec sets env tree B m by_rule r at comp.number comp.value x y h computed
 
   -- ---- the attribution
   abbrev IsKept : ℕ → ℕ → ℕ → Comp → Type 0

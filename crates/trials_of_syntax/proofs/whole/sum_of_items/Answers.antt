@@ -1,20 +1,17 @@
-use Rattle.std.specs.Prelude.{◌≡◌, ℕ, zero, suc, pos, ◌↔◌, true, Contains, Some, IsSome, refl, List, [], ◌∷◌, codes}
+use Rattle.std.specs.Prelude.{◌≡◌, ℕ, zero, suc, pos, ◌↔◌, true, Some, IsSome, refl, List, [], ◌∷◌, codes}
 use Rattle.std.specs.Fmt.{digits}
 use Rattle.std.proofs.Common.{arith, subst, sym, ◌∙◌, ap, inl}
 use Rattle.lido_base.specs.declared.value.ValueType.{ValueType}
 use Rattle.lido_base.specs.declared.value.ValueType.TheVariants as type
 use Rattle.lido_base.specs.declared.value.Origin.{Origin}
 use Rattle.lido_base.specs.Operations.{operate, kept}
-use Rattle.lido_base.specs.Plain.{Plain, Int, Text, Void, Bad}
+use Rattle.lido_base.specs.Plain.{Plain, Int, Text, Bad}
 use Rattle.lido_base.specs.Reach.{source}
 use Rattle.lido_base.specs.Tree.{from_children}
 use Rattle.lido_syntax.specs.declared.spec.Comp.{Comp}
-use Rattle.lido_syntax.specs.declared.spec.Name.{Name}
 use Rattle.lido_syntax.specs.declared.spec.RuleItem.{RuleItem}
-use Rattle.lido_syntax.specs.declared.spec.Place.TheVariants as place
 use Rattle.lido_syntax.specs.Production.{left_of}
 use Rattle.lido_syntax.specs.Sets.{Sets}
-use Rattle.lido_syntax.specs.Attributes.{reads}
 use Rattle.lido_syntax.specs.Assignment.{Assignment, Slot, Attribute, Front, Behind}
 use Rattle.lido_syntax.specs.Computation.{Holder, Synthesized, Inherited, by_rule, by_symbol, of_rule, InRule, IsRuleTarget}
 use Rattle.lido_syntax.specs.Constituents.{weight_of, constituents_at}
@@ -30,7 +27,8 @@ use Rattle.trials_of_syntax.specs.Writing.{env, Row}
 use Rattle.trials_of_syntax.proofs.Members.{every, apart}
 use Rattle.trials_of_syntax.proofs.RulesOnly.{only_rules, reaches-true}
 use Rattle.trials_of_syntax.proofs.Tables.{each_row, each_value}
-use Rattle.trials_of_syntax.proofs.SumOfItemsLemmas.{by_node, only_number, int_number, has_number, type_number, no_tail_in_out}
+use Rattle.trials_of_syntax.proofs.SumOfItemsLemmas.{by_node, only_number, int_number, has_number, type_number}
+use Rattle.trials_of_syntax.proofs.ValueLemmas.{has_value}
 use Rattle.trials_of_syntax.proofs.whole.sum_of_items.Goals as goal
 
 abbrev rows : List Row
@@ -55,9 +53,6 @@ no_inherited m a p (suc k) r c at child h = by_node (λ p r. ¬ InRule spec r (s
   where
     at_item : ¬ InRule spec item_rule (suc k) (Inherited a) c
     at_item h = every (λ (c : Comp). ¬ IsRuleTarget spec item_rule c c.target (suc k) (Inherited a)) item_rule.body ((λ h. let wrong = h.0 in cc), tt) c h.0 h.1
-
-no_tail : (c : ℕ) (x : Name) → ¬ Contains (reads number.value) (place.Tail, x)
-no_tail c x m = omega (arith, m.1)
 
 abbrev IsGood : Plain → Type 0
 IsGood (Bad o) = ⊥
@@ -92,16 +87,16 @@ module _ (sets : Sets spec) where
   kept_as : (m a : ℕ) (ty : ValueType) (v : Plain) → a ≡ n → ty ≡ type.Int → numbers m (Attribute n) ≡ Some (kept type.Int v) → numbers m (Attribute a) ≡ Some (kept ty v)
   kept_as m a ty v ea et e = subst (λ a. numbers m (Attribute a) ≡ Some (kept ty v)) (sym ea) (subst (λ ty. numbers m (Attribute n) ≡ Some (kept ty v)) (sym et) e)
 
-  computed_at : (m : ℕ) (v : Plain) → IsAt spec tree m item_rule → v ≡ value_by spec sets env tree numbers (λ c. Void) m by_rule item_rule number → IsComputed spec sets env tree numbers m by_rule number v
-  computed_at m v at e = (item_rule, (λ c. Void), at, (λ c h. absurd (no_tail c h.0 h.1)), e)
+  computed_at : (m : ℕ) (v : Plain) → IsAt spec tree m item_rule → ((tail : ℕ → Plain) → value_by spec sets env tree numbers tail m by_rule item_rule number ≡ v) → IsComputed spec sets env tree numbers m by_rule number v
+  computed_at m v at comes = has_value spec sets env tree numbers m by_rule item_rule at 2 number.value v comes
 
   values : (m a context : ℕ) (ty : ValueType) (h : Holder) (c : Comp) → a ≡ n → ty ≡ type.Int → Computes spec tree m a context h c → IsKept m a ty context h c
   values m a _ ty h c ea et (nodes.synthesized (r, at, force)) =
       let own : (h ≡ by_rule) × InRule spec r 0 (Synthesized a) c = only_rules spec.rules spec.attrs spec.terms spec.chains r 0 (left_of r) (Synthesized a) h c force in
       subst (λ h. IsKept m a ty m h c) (sym own.0) (by_node (λ m r. InRule spec r 0 (Synthesized a) c → IsKept m a ty m by_rule c)
       (λ h. absurd (top_computes_none a c h))
-      (λ h. every (λ (c : Comp). IsKept 1 a ty 1 by_rule c) item_rule.body ((Int (pos 5), computed_at 1 (Int (pos 5)) (1, refl, refl) refl, kept_as 1 a ty (Int (pos 5)) ea et refl), tt) c h.0)
-      (λ h. every (λ (c : Comp). IsKept 2 a ty 2 by_rule c) item_rule.body ((Int (pos 6), computed_at 2 (Int (pos 6)) (1, refl, refl) refl, kept_as 2 a ty (Int (pos 6)) ea et refl), tt) c h.0)
+      (λ h. every (λ (c : Comp). IsKept 1 a ty 1 by_rule c) item_rule.body ((Int (pos 5), computed_at 1 (Int (pos 5)) (1, refl, refl) (λ tail. refl), kept_as 1 a ty (Int (pos 5)) ea et refl), tt) c h.0)
+      (λ h. every (λ (c : Comp). IsKept 2 a ty 2 by_rule c) item_rule.body ((Int (pos 6), computed_at 2 (Int (pos 6)) (1, refl, refl) (λ tail. refl), kept_as 2 a ty (Int (pos 6)) ea et refl), tt) c h.0)
       m r at own.1)
   values m a _ ty _ c ea et (nodes.inherited_of_rule p k s r child at hs force) =
       absurd (no_inherited m a p k r c at child (only_rules spec.rules spec.attrs spec.terms spec.chains r k s (Inherited a) by_rule c force).1)
@@ -118,12 +113,12 @@ module _ (sets : Sets spec) where
   reach : sets.reaches sum Item ≡ true
   reach = reaches-true spec.rules spec.attrs spec.terms spec.chains sets sum Item (source refl)
 
-  output_value : Text (codes "11") ≡ value_by spec sets env tree numbers (λ c. Void) 0 by_rule top_rule out
+  output_value : (tail : ℕ → Plain) → value_by spec sets env tree numbers tail 0 by_rule top_rule out ≡ Text (codes "11")
   unfolding operate from_children weight_of digits
-  output_value = simp (value-Call spec sets env tree numbers by_rule top_rule 0 0 (λ c. Void), reach) refl
+  output_value tail = simp (value-Call spec sets env tree numbers by_rule top_rule 0 0 tail, reach) refl
 
   output : IsOutput spec sets env tree numbers (Text (codes "11"))
-  output = inl (out, (top_rule, (0, refl, refl), of_rule (refl, tt) ((0, omega arith, refl), tt)), (top_rule, (λ c. Void), (0, refl, refl), (λ c h. absurd (no_tail_in_out place.Tail h.0 h.1)), output_value))
+  output = inl (out, (top_rule, (0, refl, refl), of_rule (refl, tt) ((0, omega arith, refl), tt)), has_value spec sets env tree numbers 0 by_rule top_rule (0, refl, refl) 0 out.value (Text (codes "11")) output_value)
 
   right : (o : Origin) → ¬ WentWrong spec sets env tree numbers (Text (codes "11")) o
   right o (in_output e) = no_bad_text (codes "11") o e

@@ -10,7 +10,9 @@ use Rattle.sum_trees.specs.Trees.{Forest, none, node, leaf, marks_of, IsTree}
 use Rattle.sum_trees.proofs.Order.{tree_preorder}
 use Rattle.lido_top.specs.Sums.{value_at, sum_at, AllStay}
 use Rattle.lido_top.specs.Job.{sum_rules, IsResult}
-use Rattle.lido_top.specs.Answer.{TokensOf, SyntaxOf, PatternsOf, FirstPathOf, TextOf, AnswerOf}
+use Rattle.lido_top.specs.Verdict.{TokensOf, SyntaxOf, PatternsOf, FirstPathOf, TextOf, IsAnswer}
+use Rattle.lido_top.specs.Answers.{written}
+use Rattle.lido_top.specs.Calls.{of_input}
 use Rattle.lido_top.proofs.SumsLemmas.{only_one}
 use Rattle.lido_top.proofs.RowText.{one_word, tree_text, job, sections}
 use Rattle.lido_top.proofs.RowWords.{said, is_said}
@@ -126,9 +128,10 @@ is_result = record {
   number = seven;
 }
 
-pub is_answer : AnswerOf one_word job (Ok (codes "7"))
+pub is_answer : IsAnswer one_word job (written (codes "7"))
 unfolding OneOf TextOf TokensOf SyntaxOf PatternsOf FirstPathOf
 is_answer =
     let size : length job ≡ 286 = refl in
     let few : length job ≤ most = omega (arith, size) in
-    inl (said, is_said, inl (tt, few, inl (sections, is_cut, inl ((table, tokens), is_lexed, inl (spec, is_reading, inl ([], has_no_patterns _, is_result))))))
+    of_input said is_said refl few
+    (Ok (codes "7"), inl (sections, is_cut, inl ((table, tokens), is_lexed, inl (spec, is_reading, inl ([], has_no_patterns _, is_result)))), refl)

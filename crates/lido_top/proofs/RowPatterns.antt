@@ -7,7 +7,7 @@ use Rattle.ptg_patterns.specs.Clashes.{CantStand}
 use Rattle.ptg_patterns.specs.Language.{none}
 use Rattle.ptg_patterns.specs.Texts.{PatternsOf, PatternsFrom}
 use Rattle.ptg_patterns.proofs.FirstLemmas.{none_at_first}
-use Rattle.lido_top.specs.Answer.{part}
+use Rattle.lido_top.specs.Verdict.{part}
 use Rattle.lido_top.proofs.RowText.{job, sections}
 
 no_patterns : (texts : List (List ℕ)) → PatternsOf texts [] (Ok [])

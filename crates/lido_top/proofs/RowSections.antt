@@ -6,7 +6,7 @@ use Rattle.std.proofs.lemmas.Bool.{cases_Bool, eq-eqb}
 use Rattle.std.proofs.lemmas.List.{get_or-drop}
 use Rattle.lido_lexer.proofs.Lists.{head_of, no_bytes}
 use Rattle.job_text.specs.Lines.{IsFirst}
-use Rattle.lido_top.specs.Answer.{SectionsOf}
+use Rattle.lido_top.specs.Verdict.{SectionsOf}
 use Rattle.lido_top.proofs.RowText.{job, sections}
 
 -- what is in front passes

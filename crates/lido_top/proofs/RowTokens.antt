@@ -11,7 +11,7 @@ use Rattle.lido_lexer.specs.Tokens.{Shown, Word, Key, Int, Literal, Sign, IsFron
 use Rattle.lido_lexer.specs.Lexing.{Placed, placed, Lexes, ended, after_gap, with_token, Lexing, shown_in}
 use Rattle.lido_lexer.specs.Tables.{LexedFrom}
 use Rattle.lido_computations.specs.Functions.{known_words}
-use Rattle.lido_top.specs.Answer.{part}
+use Rattle.lido_top.specs.Verdict.{part}
 use Rattle.lido_top.proofs.RowText.{job, sections}
 use Rattle.lido_reader.proofs.ExampleTree.{spelled}
 use Rattle.lido_top.proofs.RowTable.{table, is_interned, have_texts}

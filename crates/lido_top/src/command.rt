@@ -1,9 +1,9 @@
 //! The command that the words say, as far as commands are built.
 ghost use Rattle.std.specs.Prelude.{◌≡◌, ◌∷◌, [], ◌↔◌, IsTrue, IfErr, map, string_bytes, codes};
-ghost use Rattle.lido_base.specs.Phases.{Gives, IsThe};
 ghost use Rattle.order_report.specs.declared.status.Status.{Status};
+ghost use Rattle.order_report.specs.Lines.{IsNamed};
 ghost use Rattle.lido_top.specs.Words.{SaidOf, BuiltOf, CommandOf};
-ghost use Rattle.lido_top.specs.Refusals.{IsRefusal};
+ghost use Rattle.lido_top.specs.Endings.{GivesAs, plainly, no_memory};
 
 use job_text::{Command, WordsFault, words};
 use order_report::Status;
@@ -11,8 +11,8 @@ use std::alloc::Global;
 
 /// The command of the words, or the status of the first fault in them.
 fn said(alloc: Global, line: &[String]) -> Result<Command, Status>
-    ensures gives { Gives (λ command. command) (SaidOf (map string_bytes line.now)) Status.Memory result }
-    ensures refusal { IfErr result IsRefusal }
+    ensures gives { GivesAs (λ command. command) plainly (SaidOf (map string_bytes line.now)) no_memory result }
+    ensures named { IfErr result (IsNamed []) }
 {
     match words(alloc, line) {
         Ok(command) => Ok(command),
@@ -40,8 +40,8 @@ fn says_run(line: &[String]) -> bool
 
 /// The command, if it is built.
 fn built(command: Command, line: &[String]) -> Result<Command, Status>
-    ensures gives { Gives (λ command. command) (BuiltOf (map string_bytes line.now) command) Status.Memory result }
-    ensures refusal { IfErr result IsRefusal }
+    ensures gives { GivesAs (λ command. command) plainly (BuiltOf (map string_bytes line.now) command) no_memory result }
+    ensures named { IfErr result (IsNamed []) }
 {
     if says_run(line) {
         Ok(command)
@@ -53,8 +53,8 @@ fn built(command: Command, line: &[String]) -> Result<Command, Status>
 /// The command of the words, or the status of words that say none, or none that is built.
 #[tactic(auto, unfolding(crate::specs::Words::CommandOf))]
 pub fn command_of(alloc: Global, line: &[String]) -> Result<Command, Status>
-    ensures gives { Gives (λ command. command) (CommandOf (map string_bytes line.now)) Status.Memory result }
-    ensures refusal { IfErr result IsRefusal }
+    ensures gives { GivesAs (λ command. command) plainly (CommandOf (map string_bytes line.now)) no_memory result }
+    ensures named { IfErr result (IsNamed []) }
 {
     let command = match said(alloc, line) {
         Ok(command) => command,

@@ -1,11 +1,11 @@
 //! What the parts of a job text say.
-ghost use Rattle.std.specs.Prelude.{◌≡◌, ◌≤◌, length, IfOk, IfErr, OnOk};
+ghost use Rattle.std.specs.Prelude.{◌≡◌, ◌≤◌, ℕ, List, [], length, IfOk, IfErr, OnOk};
 ghost use Rattle.lido_base.specs.Inputs.{most};
-ghost use Rattle.lido_base.specs.Phases.{Gives};
 ghost use Rattle.lido_computations.specs.Functions.{HasAll, known_words};
 ghost use Rattle.order_report.specs.declared.status.Status.{Status};
-ghost use Rattle.lido_top.specs.Refusals.{IsRefusal};
-ghost use Rattle.lido_top.specs.Answer.{IsWithin, part, behind_spec, PatternsOf, SectionsOf, SyntaxOf, TokensOf};
+ghost use Rattle.order_report.specs.Lines.{IsNamed};
+ghost use Rattle.lido_top.specs.Endings.{GivesAs, ending, no_memory};
+ghost use Rattle.lido_top.specs.Verdict.{IsWithin, part, behind_spec, PatternsOf, SectionsOf, SyntaxOf, TokensOf};
 
 use job_text::{CutFault, Sections, Span, cut};
 use lido_base::{Patterns, Strings};
@@ -28,8 +28,8 @@ fn part(bytes: &[u8], span: Span) -> &[u8]
 /// The sections of the input, or the status of the section line that it lacks.
 pub fn sections_of(bytes: &[u8]) -> Result<Sections, Status>
     requires { length bytes.now ≤ most }
-    ensures gives { Gives (λ sections. sections) (SectionsOf bytes.now) Status.Memory result }
-    ensures refusal { IfErr result IsRefusal }
+    ensures gives { (texts : List (List ℕ)) → GivesAs (λ sections. sections) (ending texts) (SectionsOf bytes.now) no_memory result }
+    ensures named { (texts : List (List ℕ)) → IfErr result (IsNamed texts) }
     ensures within { IfOk result (λ sections. IsWithin bytes.now sections.spec) }
     ensures ptg_within { IfOk result (λ sections. IsWithin bytes.now sections.ptg) }
 {
@@ -40,14 +40,14 @@ pub fn sections_of(bytes: &[u8]) -> Result<Sections, Status>
     }
 }
 
-/// A table of the words that the reader of specifications knows by their texts, and of no other texts. Its hashes are keyed by the input.
-pub fn first_texts(alloc: Global, bytes: &[u8]) -> Result<Strings, Status>
-    ensures table { IfOk result (λ strings. strings ≡ known_words) }
+/// Makes the words that the reader of specifications knows by their texts the texts of a table that has none, or says that memory is wanting.
+pub fn first_texts(strings: &mut Strings) -> Result<(), Status>
+    requires { strings.old ≡ [] }
+    ensures table { OnOk result (strings.new ≡ known_words) }
     ensures memory { IfErr result (λ status. status ≡ Status.Memory) }
 {
-    let mut strings = Strings::keyed_by(alloc, bytes);
-    match intern_known_words(&mut strings) {
-        Ok(()) => Ok(strings),
+    match intern_known_words(strings) {
+        Ok(()) => Ok(()),
         Err(_) => Err(Status::Memory),
     }
 }
@@ -61,8 +61,8 @@ pub fn tokens_of(
 ) -> Result<Vec<Token>, Status>
     requires few { length bytes.now ≤ most }
     requires within { IsWithin bytes.now sections.spec }
-    ensures gives { Gives (λ tokens. (strings.new, tokens.items)) (TokensOf strings.old bytes.now sections) Status.Memory result }
-    ensures refusal { IfErr result IsRefusal }
+    ensures gives { GivesAs (λ tokens. (strings.new, tokens.items)) (ending strings.new) (TokensOf strings.old bytes.now sections) no_memory result }
+    ensures named { IfErr result (IsNamed strings.new) }
     ensures there { HasAll known_words strings.old → HasAll known_words strings.new }
 {
     match lex(alloc, part(bytes, sections.spec), strings) {
@@ -80,8 +80,8 @@ pub fn syntax_of(
     strings: &mut Strings,
 ) -> Result<Spec, Status>
     requires { HasAll known_words strings.old }
-    ensures gives { Gives (λ spec. spec) (SyntaxOf (strings.old, tokens.now) size) Status.Memory result }
-    ensures refusal { IfErr result IsRefusal }
+    ensures gives { GivesAs (λ spec. spec) (ending strings.new) (SyntaxOf (strings.old, tokens.now) size) no_memory result }
+    ensures named { IfErr result (IsNamed strings.new) }
     ensures table { OnOk result (strings.new ≡ behind_spec (strings.old, tokens.now)) }
 {
     match read_spec(alloc, tokens, size, strings) {
@@ -100,8 +100,8 @@ pub fn patterns_of(
 ) -> Result<Patterns, Status>
     requires few { length bytes.now ≤ most }
     requires within { IsWithin bytes.now sections.ptg }
-    ensures gives { Gives (λ patterns. patterns.list) (PatternsOf strings.old bytes.now sections) Status.Memory result }
-    ensures refusal { IfErr result IsRefusal }
+    ensures gives { GivesAs (λ patterns. patterns.list) (ending strings.new) (PatternsOf strings.old bytes.now sections) no_memory result }
+    ensures named { IfErr result (IsNamed strings.new) }
 {
     match read_patterns(alloc, part(bytes, sections.ptg), strings) {
         Ok(patterns) => Ok(patterns),

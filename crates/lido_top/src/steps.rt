@@ -1,16 +1,18 @@
 //! The steps from an input to its text.
-ghost use Rattle.std.specs.Prelude.{◌≡◌, ◌<◌, ◌≤◌, string_bytes, length, IfErr};
+ghost use Rattle.std.specs.Prelude.{◌≡◌, ◌<◌, ◌≤◌, ℕ, List, [], string_bytes, length, IfErr};
 ghost use Rattle.lido_base.specs.Inputs.{most};
 ghost use Rattle.lido_base.specs.Phases.{Gives, OneOf};
 ghost use Rattle.sum_trees.specs.Trees.{IsReadable};
 ghost use Rattle.order_report.specs.declared.status.Status.{Status};
-ghost use Rattle.lido_top.specs.Refusals.{IsRefusal};
-ghost use Rattle.lido_top.specs.Answer.{FirstPathOf, TextOf};
+ghost use Rattle.order_report.specs.Lines.{IsNamed};
+ghost use Rattle.lido_top.specs.Endings.{GivesAs, ending, no_memory};
+ghost use Rattle.lido_top.specs.Verdict.{FirstPathOf, TextOf};
 ghost use Rattle.lido_top.specs.Steps.{IsTopText, ValueOf, NumberOf};
 
 use crate::job::{sum_rules, tree_part};
 use crate::parts::{first_texts, patterns_of, sections_of, syntax_of, tokens_of};
 use crate::sums::evaluate;
+use lido_base::Strings;
 use order_report::Status;
 use std::alloc::{AllocError, Global};
 use sum_trees::{FormFault, SumRule, read_sum_tree};
@@ -61,8 +63,8 @@ fn number_of(alloc: Global, bytes: &[u8]) -> Result<String, FormFault>
 
 /// The text of an input that has the form of the first path.
 fn first_path(alloc: Global, bytes: &[u8]) -> Result<String, Status>
-    ensures gives { Gives string_bytes (FirstPathOf bytes.now) Status.Memory result }
-    ensures refusal { IfErr result IsRefusal }
+    ensures gives { (texts : List (List ℕ)) → GivesAs string_bytes (ending texts) (FirstPathOf bytes.now) no_memory result }
+    ensures named { (texts : List (List ℕ)) → IfErr result (IsNamed texts) }
 {
     match number_of(alloc, bytes) {
         Ok(text) => Ok(text),
@@ -71,30 +73,32 @@ fn first_path(alloc: Global, bytes: &[u8]) -> Result<String, Status>
     }
 }
 
-/// The text of the input, or the status of the first refusal that stands in it.
-pub fn text_of(alloc: Global, bytes: &[u8]) -> Result<String, Status>
-    requires { length bytes.now ≤ most }
-    ensures gives { Gives string_bytes (TextOf bytes.now) Status.Memory result }
-    ensures refusal { IfErr result IsRefusal }
+/// The text of the input, or the status of the first refusal that stands in it, whose names have their texts in the table. The table
+/// begins without texts.
+pub fn text_of(alloc: Global, bytes: &[u8], strings: &mut Strings) -> Result<String, Status>
+    requires few { length bytes.now ≤ most }
+    requires empty { strings.old ≡ [] }
+    ensures gives { GivesAs string_bytes (ending strings.new) (TextOf bytes.now) no_memory result }
+    ensures named { IfErr result (IsNamed strings.new) }
 {
     let sections = match sections_of(bytes) {
         Ok(sections) => sections,
         Err(status) => return Err(status),
     };
-    let mut strings = match first_texts(alloc, bytes) {
-        Ok(strings) => strings,
+    match first_texts(strings) {
+        Ok(()) => {}
         Err(status) => return Err(status),
-    };
-    let tokens = match tokens_of(alloc, bytes, sections, &mut strings) {
+    }
+    let tokens = match tokens_of(alloc, bytes, sections, strings) {
         Ok(tokens) => tokens,
         Err(status) => return Err(status),
     };
     let size = sections.spec.to - sections.spec.from;
-    match syntax_of(alloc, &tokens, size, &mut strings) {
+    match syntax_of(alloc, &tokens, size, strings) {
         Ok(_) => {}
         Err(status) => return Err(status),
     }
-    match patterns_of(alloc, bytes, sections, &mut strings) {
+    match patterns_of(alloc, bytes, sections, strings) {
         Ok(_) => {}
         Err(status) => return Err(status),
     }

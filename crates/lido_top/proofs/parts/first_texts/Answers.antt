@@ -9,4 +9,4 @@ unfolding interned
 all_new = refl
 
 pub returns-in-Ok-clause-table : goal.returns-in-Ok-clause-table
-returns-in-Ok-clause-table c = c.in-Ok.ensures.table ∙ ap (λ (texts : List (List ℕ)). interned texts known_words) c.keyed_by-strings.ensures ∙ all_new
+returns-in-Ok-clause-table c = c.in-Ok.ensures.table ∙ ap (λ (texts : List (List ℕ)). interned texts known_words) c.requires ∙ all_new

@@ -5,7 +5,8 @@ use Rattle.lido_lexer.specs.declared.token.LexFault.TheVariants as fault
 use Rattle.lido_lexer.specs.Tables.{LexedFrom}
 use Rattle.lido_reader.proofs.AddedLemmas.{has_all_gained}
 use Rattle.order_report.specs.declared.status.Status.TheVariants as status
-use Rattle.lido_top.specs.Answer.{of_lex, part, TokensOf}
+use Rattle.lido_top.specs.Endings.{plainly, no_memory}
+use Rattle.lido_top.specs.Verdict.{of_lex, part, TokensOf}
 use Rattle.lido_top.proofs.Wrapping.{wrapped_ok, wrapped_fault}
 use Rattle.lido_top.proofs.parts.tokens_of.Goals as goal
 
@@ -21,7 +22,7 @@ unfolding TokensOf
 returns-in-Err-Lexical-clause-gives c =
     let texts = c.args.strings.now in
     let e = c.in-Err-Lexical.field-0 in
-    wrapped_fault of_lex (LexedFrom texts (part c.args.bytes.now c.args.sections.spec)) fault.Memory e status.Memory (status.Spec (spec.Lexical c.in-Err-Lexical.at)) refl (ap of_lex c.in-Err-Lexical.field-0-is)
+    wrapped_fault of_lex (LexedFrom texts (part c.args.bytes.now c.args.sections.spec)) fault.Memory e no_memory (plainly (status.Spec (spec.Lexical c.in-Err-Lexical.at))) refl (ap of_lex c.in-Err-Lexical.field-0-is)
     (subst (λ (l : List ℕ). (e ≡ fault.Memory) ⊎ IsThe (LexedFrom texts l) (Err e)) c.part.ensures.is c.in-Err-Lexical.ensures.reads)
 
 pub returns-in-Ok-clause-there : goal.returns-in-Ok-clause-there

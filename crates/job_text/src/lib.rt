@@ -10,5 +10,3 @@ pub use command_line::{Command, RunWords, WordsFault, words};
 pub use cutting::{CutFault, Sections, Span, cut};
 pub use generator::big;
 
-#[cfg(test)]
-mod tests;

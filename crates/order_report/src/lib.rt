@@ -5,8 +5,6 @@ pub mod laws;
 mod lines;
 mod names;
 mod status;
-#[cfg(test)]
-mod tests;
 mod writing;
 
 pub use lines::write_fault;

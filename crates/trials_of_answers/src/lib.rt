@@ -64,4 +64,8 @@ pub fn causes_stand_in_the_row()
 {}
 
 #[cfg(test)]
+mod report_tests;
+#[cfg(test)]
 mod tests;
+#[cfg(test)]
+mod text_tests;

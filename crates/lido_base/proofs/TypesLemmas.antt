@@ -15,16 +15,16 @@ use Rattle.lido_base.specs.declared.pattern.Pattern.{Pattern}
 use Rattle.lido_base.specs.Plain.{Plain}
 use Rattle.lido_base.specs.Plain as plain
 use Rattle.lido_base.specs.Operations.{unless_bad, applied, operate, int, divided, text, pattern_bytes}
-use Rattle.lido_base.specs.Types.{Signature, of_types, two_alike, all_types, signatures, Takes, type_of, IsOfType}
+use Rattle.lido_base.specs.Types.{Signature, of_types, two_alike, every_type, signatures, Takes, plain_type, IsOfType}
 use Rattle.lido_base.proofs.Lists.{contains-cons, contains-nil, contains-map}
 
 -- of the types, and not Bad
 abbrev pub HaveTypes : List ValueType → List Plain → Type 0
-HaveTypes types vs = AllZip (λ ty v. type_of v ≡ Some ty) types vs
+HaveTypes types vs = AllZip (λ ty v. plain_type v ≡ Some ty) types vs
 
 -- ---- the first Bad argument is the result, and of any type
 
-has_type : (ty u : ValueType) (v : Plain) → type_of v ≡ Some u → IsOfType ty v → type_of v ≡ Some ty
+has_type : (ty u : ValueType) (v : Plain) → plain_type v ≡ Some u → IsOfType ty v → plain_type v ≡ Some ty
 has_type ty u v known (inl bad) = absurd (none-some u (sym bad ∙ known))
 has_type ty u v known (inr is) = is
 
@@ -41,19 +41,19 @@ unless_bad-type gives (ty ∷ types) (plain.Void ∷ vs) v are next = unless_bad
 
 -- ---- values by their types
 
-is_int : (v : Plain) → type_of v ≡ Some Int → (z : ℤ) × (v ≡ plain.Int z)
+is_int : (v : Plain) → plain_type v ≡ Some Int → (z : ℤ) × (v ≡ plain.Int z)
 is_int (plain.Int z) e = (z, refl)
 is_int _ e = cc
 
-is_truth : (v : Plain) → type_of v ≡ Some Truth → (b : Bool) × (v ≡ plain.Truth b)
+is_truth : (v : Plain) → plain_type v ≡ Some Truth → (b : Bool) × (v ≡ plain.Truth b)
 is_truth (plain.Truth b) e = (b, refl)
 is_truth _ e = cc
 
-is_str : (v : Plain) → type_of v ≡ Some Str → (bytes : List ℕ) × (v ≡ plain.Str bytes)
+is_str : (v : Plain) → plain_type v ≡ Some Str → (bytes : List ℕ) × (v ≡ plain.Str bytes)
 is_str (plain.Str bytes) e = (bytes, refl)
 is_str _ e = cc
 
-is_text : (v : Plain) → type_of v ≡ Some Text → (bytes : List ℕ) × (v ≡ plain.Text bytes)
+is_text : (v : Plain) → plain_type v ≡ Some Text → (bytes : List ℕ) × (v ≡ plain.Text bytes)
 is_text (plain.Text bytes) e = (bytes, refl)
 is_text _ e = cc
 
@@ -72,7 +72,7 @@ in-one P only row here m = in-cons P only row [] here (λ k. absurd (contains-ni
 in-map : (P : Signature → Type 0) (f : ValueType → Signature) (types : List ValueType) (row : Signature) → ((ty : ValueType) → P (f ty)) → Contains (map f types) row → P row
 in-map P f types row all m = let (ty, among, e) = contains-map f types row m in subst P e (all ty)
 
-module _ (texts : List (List ℕ)) (patterns : List Pattern) (fails : BadKind → Plain) (bad : (why : BadKind) → type_of (fails why) ≡ None) where
+module _ (texts : List (List ℕ)) (patterns : List Pattern) (fails : BadKind → Plain) (bad : (why : BadKind) → plain_type (fails why) ≡ None) where
   int-type : (z : ℤ) → IsOfType Int (int fails z)
   int-type z = by (int_le (negsuc (2 ^ 63 - 1)) z && int_lt z (pos (2 ^ 63)))
     where
@@ -102,13 +102,13 @@ module _ (texts : List (List ℕ)) (patterns : List Pattern) (fails : BadKind �
   none o gives is [] h = is
   none o gives is (v ∷ vs) h = absurd h
 
-  one : {A : Type 0} (o : Op) (t gives : ValueType) (f : A → Plain) → ((v : Plain) → type_of v ≡ Some t → (a : A) × (v ≡ f a))
+  one : {A : Type 0} (o : Op) (t gives : ValueType) (f : A → Plain) → ((v : Plain) → plain_type v ≡ Some t → (a : A) × (v ≡ f a))
       → ((a : A) → IsOfType gives (applied texts patterns fails o (f a ∷ []))) → KeepsType o (of_types (t ∷ []) gives)
   one o t gives f seen is [] h = absurd h
   one o t gives f seen is (v ∷ []) h = let (a, e) = seen v h.0 in subst (λ u. IsOfType gives (applied texts patterns fails o (u ∷ []))) (sym e) (is a)
   one o t gives f seen is (v ∷ w ∷ vs) h = absurd h.1
 
-  two : {A : Type 0} (o : Op) (t gives : ValueType) (f : A → Plain) → ((v : Plain) → type_of v ≡ Some t → (a : A) × (v ≡ f a))
+  two : {A : Type 0} (o : Op) (t gives : ValueType) (f : A → Plain) → ((v : Plain) → plain_type v ≡ Some t → (a : A) × (v ≡ f a))
       → ((a b : A) → IsOfType gives (applied texts patterns fails o (f a ∷ f b ∷ []))) → KeepsType o (of_types (t ∷ t ∷ []) gives)
   two o t gives f seen is [] h = absurd h
   two o t gives f seen is (v ∷ []) h = absurd h.1
@@ -167,10 +167,10 @@ module _ (texts : List (List ℕ)) (patterns : List Pattern) (fails : BadKind �
   keeps op.Le row m = two_ints op.Le Truth row (λ x y. inr refl) m
   keeps op.Gt row m = two_ints op.Gt Truth row (λ x y. inr refl) m
   keeps op.Ge row m = two_ints op.Ge Truth row (λ x y. inr refl) m
-  keeps op.Identical row m = in-map (KeepsType op.Identical) (λ ty. of_types (ty ∷ []) ty) all_types row identical m
+  keeps op.Identical row m = in-map (KeepsType op.Identical) (λ ty. of_types (ty ∷ []) ty) every_type row identical m
   keeps op.Zero row m = one_row op.Zero (of_types [] Int) row (none op.Zero Int (inr refl)) m
   keeps op.One row m = one_row op.One (of_types [] Int) row (none op.One Int (inr refl)) m
-  keeps op.ArgToOne row m = in-map (KeepsType op.ArgToOne) (λ ty. of_types (ty ∷ []) Int) all_types row to_one m
+  keeps op.ArgToOne row m = in-map (KeepsType op.ArgToOne) (λ ty. of_types (ty ∷ []) Int) every_type row to_one m
   keeps op.Null row m = one_row op.Null (of_types [] Text) row (none op.Null Text (inr refl)) m
   keeps op.Numb row m = one_row op.Numb (of_types (Int ∷ []) Text) row (one op.Numb Int Text (λ z. plain.Int z) is_int (λ z. text-type (signed_decimal z))) m
   keeps op.AsIs row m = one_row op.AsIs (of_types (Str ∷ []) Text) row (one op.AsIs Str Text (λ s. plain.Str s) is_str text-type) m

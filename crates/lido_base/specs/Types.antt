@@ -18,8 +18,8 @@ abbrev pub of_types : List ValueType → ValueType → Signature
 of_types args gives = record { args = args; gives = gives }
 
 -- All types, where a function takes any.
-abbrev pub all_types : List ValueType
-all_types = Int ∷ Str ∷ Bool ∷ Text ∷ Void ∷ []
+abbrev pub every_type : List ValueType
+every_type = Int ∷ Str ∷ Bool ∷ Text ∷ Void ∷ []
 
 -- For each of these types two arguments of it, which are compared.
 abbrev pub two_alike : List ValueType → List Signature
@@ -42,10 +42,10 @@ signatures patterns op.Lt = two_alike (Int ∷ [])
 signatures patterns op.Le = two_alike (Int ∷ [])
 signatures patterns op.Gt = two_alike (Int ∷ [])
 signatures patterns op.Ge = two_alike (Int ∷ [])
-signatures patterns op.Identical = map (λ ty. of_types (ty ∷ []) ty) all_types
+signatures patterns op.Identical = map (λ ty. of_types (ty ∷ []) ty) every_type
 signatures patterns op.Zero = of_types [] Int ∷ []
 signatures patterns op.One = of_types [] Int ∷ []
-signatures patterns op.ArgToOne = map (λ ty. of_types (ty ∷ []) Int) all_types
+signatures patterns op.ArgToOne = map (λ ty. of_types (ty ∷ []) Int) every_type
 signatures patterns op.Null = of_types [] Text ∷ []
 signatures patterns op.Numb = of_types (Int ∷ []) Text ∷ []
 signatures patterns op.AsIs = of_types (Str ∷ []) Text ∷ []
@@ -57,14 +57,14 @@ abbrev pub Takes : List Pattern → Op → List ValueType → ValueType → Type
 Takes patterns o args gives = Contains (signatures patterns o) (of_types args gives)
 
 -- The type of a value, if it has one: a Bad value stands for one of any type.
-abbrev pub type_of : Plain → Option ValueType
-type_of (plain.Int z) = Some Int
-type_of (plain.Truth b) = Some Bool
-type_of (plain.Str bytes) = Some Str
-type_of (plain.Text bytes) = Some Text
-type_of plain.Void = Some Void
-type_of (plain.Bad o) = None
+abbrev pub plain_type : Plain → Option ValueType
+plain_type (plain.Int z) = Some Int
+plain_type (plain.Truth b) = Some Bool
+plain_type (plain.Str bytes) = Some Str
+plain_type (plain.Text bytes) = Some Text
+plain_type plain.Void = Some Void
+plain_type (plain.Bad o) = None
 
 -- The value is Bad or of the type.
 abbrev pub IsOfType : ValueType → Plain → Type 0
-IsOfType ty v = (type_of v ≡ None) ⊎ (type_of v ≡ Some ty)
+IsOfType ty v = (plain_type v ≡ None) ⊎ (plain_type v ≡ Some ty)

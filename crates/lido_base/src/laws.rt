@@ -10,7 +10,7 @@ ghost use Rattle.lido_base.specs.Texts.{IsDistinctTexts, with_text};
 ghost use Rattle.lido_base.specs.Plain.{Plain, plain_item, plain_tree};
 ghost use Rattle.lido_base.specs.Tree.{Tree, IsTree, Child, AsksBelow, ancestors, children, coordinate, from_children, item_at, items_of, parent_of, place_of, rule_at};
 ghost use Rattle.lido_base.specs.declared.kinds.CoordPart.{CoordPart};
-ghost use Rattle.lido_base.specs.Types.{Takes, type_of, IsOfType};
+ghost use Rattle.lido_base.specs.Types.{Takes, plain_type, IsOfType};
 ghost use Rattle.lido_base.specs.declared.operation.Op.{Op};
 ghost use Rattle.lido_base.specs.declared.pattern.Pattern.{Pattern as TextPattern};
 ghost use Rattle.lido_base.specs.declared.value.BadKind.{BadKind};
@@ -122,7 +122,7 @@ pub fn origins_are_in_order()
 /// An operation whose arguments are of the types of a row of its table, or Bad, gives a value of the row's type, or Bad: typed
 /// arguments never fail to fit. `fails` makes the Bad value of an operation that fails first.
 pub fn typed_operations_keep_their_types()
-    ensures { (texts : List (List ℕ)) (patterns : List TextPattern) (fails : BadKind → Plain) → ((why : BadKind) → type_of (fails why) ≡ None)
+    ensures { (texts : List (List ℕ)) (patterns : List TextPattern) (fails : BadKind → Plain) → ((why : BadKind) → plain_type (fails why) ≡ None)
         → (o : Op) (types : List ValueType) (gives : ValueType) (values : List Plain)
         → Takes patterns o types gives → AllZip IsOfType types values → IsOfType gives (operate texts patterns fails o values) }
 {}

@@ -13,7 +13,7 @@ use Rattle.lido_base.specs.declared.value.ValueType.TheVariants.{Text}
 use Rattle.ptg_patterns.specs.declared.arguments.Arguments.{Arguments}
 use Rattle.ptg_patterns.specs.declared.written.Point.{Point}
 use Rattle.ptg_patterns.specs.Meaning.{arguments, first_type, greatest, argument_types}
-use Rattle.ptg_patterns.specs.Tables.{type_at, set_at, IsTableOf}
+use Rattle.ptg_patterns.specs.Tables.{type_at, set_at, RecordsPoints}
 use Rattle.ptg_patterns.specs.Clashes.{has_number, has_no_number}
 
 -- no type at one more number
@@ -73,14 +73,14 @@ any_more : (p : Point → Bool) (points : List Point) (point : Point) (b : Bool)
 any_more p points point b e = list_any-append p points (point ∷ []) ∙ ap (λ (x : Bool). list_any p points || x) (or_false (p point) ∙ e)
 
 -- the types once there is one more point
-types_more : (table : Arguments) (types : List (Option ValueType)) (points : List Point) (point : Point) (number : ℕ) → IsTableOf table points → number ≡ unwrap_or point.number (length points + 1)
+types_more : (table : Arguments) (types : List (Option ValueType)) (points : List Point) (point : Point) (number : ℕ) → RecordsPoints table points → number ≡ unwrap_or point.number (length points + 1)
     → ((j : ℕ) → type_at types j ≡ set_at (type_at table.types.items) number point.kind j) → (j : ℕ) → type_at types j ≡ first_type j (arguments 1 (points ++ point ∷ []))
 types_more table types points point number before is set j =
     set j ∙ ap (λ (o : Option ValueType). elim o [ Some t ↦ Some t | None ↦ if nat_eq number j then Some point.kind else None ]) (before.types j)
     ∙ sym (first_push j number point.kind (arguments 1 points))
     ∙ sym (ap (first_type j) (arguments_push 1 (length points + 1) points point (omega arith) ∙ ap (λ (n : ℕ). arguments 1 points ++ (n, point.kind) ∷ []) (sym is)))
 
-size_more : (table : Arguments) (size : ℕ) (points : List Point) (point : Point) (number : ℕ) → IsTableOf table points → number ≡ unwrap_or point.number (length points + 1)
+size_more : (table : Arguments) (size : ℕ) (points : List Point) (point : Point) (number : ℕ) → RecordsPoints table points → number ≡ unwrap_or point.number (length points + 1)
     → size ≡ max (length table.types.items) (number + 1) → size ≡ greatest (arguments 1 (points ++ point ∷ [])) + 1
 size_more table size points point number before is grown =
     let all = ap greatest (arguments_push 1 (length points + 1) points point (omega arith) ∙ ap (λ (n : ℕ). arguments 1 points ++ (n, point.kind) ∷ []) (sym is)) in
@@ -89,10 +89,10 @@ size_more table size points point number before is grown =
     omega (arith, all, more, old, grown)
 
 -- what the table keeps once there is one more point
-pub keeps_more : (table next : Arguments) (points : List Point) (point : Point) (number : ℕ) → IsTableOf table points → number ≡ unwrap_or point.number (length points + 1)
+pub keeps_more : (table next : Arguments) (points : List Point) (point : Point) (number : ℕ) → RecordsPoints table points → number ≡ unwrap_or point.number (length points + 1)
     → next.count ≡ table.count + 1 → next.has_bare ≡ (table.has_bare || has_no_number point) → next.has_numbered ≡ (table.has_numbered || has_number point)
     → ((j : ℕ) → type_at next.types.items j ≡ set_at (type_at table.types.items) number point.kind j)
-    → length next.types.items ≡ max (length table.types.items) (number + 1) → IsTableOf next (points ++ point ∷ [])
+    → length next.types.items ≡ max (length table.types.items) (number + 1) → RecordsPoints next (points ++ point ∷ [])
 keeps_more table next points point number before is count bare numbered set grown = record {
   count = omega (arith, count, before.count, length-append points (point ∷ []));
   has_bare = bare ∙ ap (λ (b : Bool). b || has_no_number point) before.has_bare ∙ sym (any_more has_no_number points point (has_no_number point) refl);
@@ -134,7 +134,7 @@ pub all_types : (types : List (Option ValueType)) (found : List ValueType) (n m 
 all_types types found n m same before = before ∙ ap (λ (k : ℕ). map (λ j. unwrap_or (type_at types j) Text) (range_with_len 1 k)) same
 
 -- the table's types are those of the arguments
-pub types_are : (table : Arguments) (points : List Point) (found : List ValueType) → IsTableOf table points → found ≡ types_below table.types.items (length table.types.items)
+pub types_are : (table : Arguments) (points : List Point) (found : List ValueType) → RecordsPoints table points → found ≡ types_below table.types.items (length table.types.items)
     → found ≡ argument_types (arguments 1 points)
 types_are table points found before is =
     let count : length table.types.items - 1 ≡ greatest (arguments 1 points) = omega (arith, before.size) in

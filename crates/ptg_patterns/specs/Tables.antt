@@ -16,7 +16,7 @@ abbrev pub set_at : (ℕ → Option ValueType) → ℕ → ValueType → ℕ →
 set_at types number kind j = elim (types j) [ Some other ↦ Some other | None ↦ if nat_eq number j then Some kind else None ]
 
 -- The table keeps what these points say.
-pub record IsTableOf (table : Arguments) (points : List Point) : Type 0 where
+pub record RecordsPoints (table : Arguments) (points : List Point) : Type 0 where
   pub count : table.count ≡ length points
   pub has_bare : table.has_bare ≡ list_any has_no_number points
   pub has_numbered : table.has_numbered ≡ list_any has_number points

@@ -4,7 +4,7 @@ ghost use Rattle.std.specs.List.{range_with_len};
 ghost use Rattle.ptg_patterns.specs.declared.written.Point.{Point as PointOf};
 ghost use Rattle.ptg_patterns.specs.Clashes.{IsMixed};
 ghost use Rattle.ptg_patterns.specs.Meaning.{argument_types, arguments};
-ghost use Rattle.ptg_patterns.specs.Tables.{type_at, set_at, IsTableOf};
+ghost use Rattle.ptg_patterns.specs.Tables.{type_at, set_at, RecordsPoints};
 
 use crate::PtgFault;
 use crate::written::Point;
@@ -75,7 +75,7 @@ fn types_from_one(alloc: Global, types: &[Option<ValueType>]) -> Result<Vec<Valu
 impl Arguments {
     /// No points.
     pub fn new(alloc: Global) -> Result<Arguments, PtgFault>
-        ensures none { IfOk result (λ arguments. IsTableOf arguments []) }
+        ensures none { IfOk result (λ arguments. RecordsPoints arguments []) }
         ensures memory { IfErr result (λ e. e ≡ PtgFault.Memory) }
     {
         let mut types = Vec::new(alloc);
@@ -90,7 +90,7 @@ impl Arguments {
 
     /// Whether the point, whose argument has this number, does not agree with those so far.
     fn is_mixed(&self, point: Point, number: u32) -> bool
-        ensures { (points : Sequence PointOf) → IsTableOf self.now points → number ≡ unwrap_or point.number (length points + 1)
+        ensures { (points : Sequence PointOf) → RecordsPoints self.now points → number ≡ unwrap_or point.number (length points + 1)
             → (IsTrue result → IsMixed points point) × (result ≡ false → ¬ IsMixed points point) }
     {
         let other_form = match point.number {
@@ -107,8 +107,8 @@ impl Arguments {
     /// Notes that there is one more point, whose argument has this number.
     fn note(&mut self, point: Point, number: u32) -> Result<(), PtgFault>
         requires { self.old.count + 1 < 2 ^ 32 }
-        ensures kept { OnOk result ((points : Sequence PointOf) → IsTableOf self.old points → number ≡ unwrap_or point.number (length points + 1)
-            → IsTableOf self.new (points ++ point ∷ [])) }
+        ensures kept { OnOk result ((points : Sequence PointOf) → RecordsPoints self.old points → number ≡ unwrap_or point.number (length points + 1)
+            → RecordsPoints self.new (points ++ point ∷ [])) }
         ensures memory { IfErr result (λ e. e ≡ PtgFault.Memory) }
     {
         match put(&mut self.types, number, point.kind) {
@@ -127,9 +127,9 @@ impl Arguments {
     /// the answer is `PtgMixed`.
     pub fn insert(&mut self, point: Point) -> Result<u32, PtgFault>
         requires { self.old.count + 1 < 2 ^ 32 }
-        ensures number { (points : Sequence PointOf) → IsTableOf self.old points → IfOk result (λ number. number ≡ unwrap_or point.number (length points + 1)) }
-        ensures kept { (points : Sequence PointOf) → IsTableOf self.old points → OnOk result (IsTableOf self.new (points ++ point ∷ []) × ¬ IsMixed points point) }
-        ensures fault { (points : Sequence PointOf) → IsTableOf self.old points
+        ensures number { (points : Sequence PointOf) → RecordsPoints self.old points → IfOk result (λ number. number ≡ unwrap_or point.number (length points + 1)) }
+        ensures kept { (points : Sequence PointOf) → RecordsPoints self.old points → OnOk result (RecordsPoints self.new (points ++ point ∷ []) × ¬ IsMixed points point) }
+        ensures fault { (points : Sequence PointOf) → RecordsPoints self.old points
             → IfErr result (λ e. (e ≡ PtgFault.Memory) ⊎ ((e ≡ PtgFault.PtgMixed point.at) × IsMixed points point)) }
     {
         let number = match point.number {
@@ -147,7 +147,7 @@ impl Arguments {
 
     /// The types of the arguments, from the first on.
     pub fn types(&self, alloc: Global) -> Result<Vec<ValueType>, PtgFault>
-        ensures types { (points : Sequence PointOf) → IsTableOf self.now points → IfOk result (λ types. types.items ≡ argument_types (arguments 1 points)) }
+        ensures types { (points : Sequence PointOf) → RecordsPoints self.now points → IfOk result (λ types. types.items ≡ argument_types (arguments 1 points)) }
         ensures memory { IfErr result (λ e. e ≡ PtgFault.Memory) }
     {
         types_from_one(alloc, &self.types)

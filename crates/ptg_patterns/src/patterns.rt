@@ -4,7 +4,7 @@ ghost use Rattle.ptg_patterns.specs.declared.written.Point.{Point as PointOf};
 ghost use Rattle.ptg_patterns.specs.Clashes.{CantStand, IsClash, IsMixed, IsMixedAt, is_reserved};
 ghost use Rattle.ptg_patterns.specs.First.{HasNoClash};
 ghost use Rattle.ptg_patterns.specs.Meaning.{parts, pattern_of, points};
-ghost use Rattle.ptg_patterns.specs.Tables.{IsTableOf};
+ghost use Rattle.ptg_patterns.specs.Tables.{RecordsPoints};
 
 use crate::PtgFault;
 use crate::arguments::Arguments;
@@ -15,10 +15,10 @@ use std::alloc::Global;
 /// What an item prints; a point goes among the arguments.
 fn part(arguments: &mut Arguments, item: Item) -> Result<Part, PtgFault>
     requires { arguments.old.count + 1 < 2 ^ 32 }
-    ensures part { (before : Sequence PointOf) → IsTableOf arguments.old before → IfOk result (λ part. part ∷ [] ≡ parts (length before + 1) (item ∷ [])) }
-    ensures kept { (before : Sequence PointOf) → IsTableOf arguments.old before → OnOk result (IsTableOf arguments.new (before ++ points (item ∷ []))) }
-    ensures agrees { (before : Sequence PointOf) → IsTableOf arguments.old before → OnOk result (HasNoClash IsMixed before → HasNoClash IsMixed (before ++ points (item ∷ []))) }
-    ensures fault { (before : Sequence PointOf) → IsTableOf arguments.old before
+    ensures part { (before : Sequence PointOf) → RecordsPoints arguments.old before → IfOk result (λ part. part ∷ [] ≡ parts (length before + 1) (item ∷ [])) }
+    ensures kept { (before : Sequence PointOf) → RecordsPoints arguments.old before → OnOk result (RecordsPoints arguments.new (before ++ points (item ∷ []))) }
+    ensures agrees { (before : Sequence PointOf) → RecordsPoints arguments.old before → OnOk result (HasNoClash IsMixed before → HasNoClash IsMixed (before ++ points (item ∷ []))) }
+    ensures fault { (before : Sequence PointOf) → RecordsPoints arguments.old before
         → IfErr result (λ e. (e ≡ PtgFault.Memory) ⊎ ((point : PointOf) × (points (item ∷ []) ≡ point ∷ []) × (e ≡ PtgFault.PtgMixed point.at) × IsMixed before point)) }
 {
     let brace = item.brace;
@@ -40,9 +40,9 @@ fn part(arguments: &mut Arguments, item: Item) -> Result<Part, PtgFault>
 /// What the items print; their points go among the arguments, of which there are none yet.
 fn parts_of(alloc: Global, items: &[Item], arguments: &mut Arguments) -> Result<Vec<Part>, PtgFault>
     requires few { length items.now + 1 < 2 ^ 32 }
-    requires none { IsTableOf arguments.old [] }
+    requires none { RecordsPoints arguments.old [] }
     ensures parts { IfOk result (λ found. found.items ≡ parts 1 items.now) }
-    ensures kept { OnOk result (IsTableOf arguments.new (points items.now)) }
+    ensures kept { OnOk result (RecordsPoints arguments.new (points items.now)) }
     ensures agrees { OnOk result (HasNoClash IsMixed (points items.now)) }
     ensures fault { IfErr result (λ e. (e ≡ PtgFault.Memory) ⊎ IsMixedAt (points items.now) e) }
 {

@@ -6,7 +6,7 @@ use Rattle.ptg_patterns.specs.declared.written.Item.{Item}
 use Rattle.ptg_patterns.specs.First.{HasNoClash}
 use Rattle.ptg_patterns.specs.Clashes.{IsMixed}
 use Rattle.ptg_patterns.specs.Meaning.{points}
-use Rattle.ptg_patterns.specs.Tables.{IsTableOf}
+use Rattle.ptg_patterns.specs.Tables.{RecordsPoints}
 use Rattle.ptg_patterns.proofs.MeaningLemmas.{few_points, points_more, parts_more, mixed_at}
 use Rattle.ptg_patterns.proofs.patterns.parts_of.Goals as goal
 
@@ -37,7 +37,7 @@ loop-item-preserved c =
     let before = c.loop-item.invariant in
     let more = points_more items i no_item c.loop-item-test.true in
     record {
-      keeps = subst (λ (l : List Point). IsTableOf c.part.new.arguments l) (sym more) (c.in-Ok.ensures.kept (points (take i items)) before.keeps);
+      keeps = subst (λ (l : List Point). RecordsPoints c.part.new.arguments l) (sym more) (c.in-Ok.ensures.kept (points (take i items)) before.keeps);
       parts = parts_more items i no_item c.loop-item.parts.items c.push.new.self.items c.in-Ok.part c.loop-item-test.true before.parts
           (c.in-Ok.ensures.part (points (take i items)) before.keeps) c.in_ok-push-in-Ok.ensures.items;
       agrees = subst (λ (l : List Point). HasNoClash IsMixed l) (sym more) (c.in-Ok.ensures.agrees (points (take i items)) before.keeps before.agrees);

@@ -14,7 +14,7 @@ push_reserved-requires g c =
 pub loop-pending-init : goal.loop-pending-init
 loop-pending-init g c =
     let r = c.requires.denotes in
-    let items : c.push_reserved.new.self.items ≡ c.begun.result ∷ [] = c.push_reserved.ensures.items ∙ ap (λ l. l ++ c.begun.result ∷ []) c.clear.ensures.items in
+    let items : c.push_reserved.new.self.items ≡ c.begun.result ∷ [] = ◌∙◌ {A = List Pending} c.push_reserved.ensures.items (ap (λ l. l ++ c.begun.result ∷ []) c.clear.ensures.items) in
     record {
       text = started c.args.self.now c.args.patterns.now.list c.args.strings.now c.begun.result c.args.desc r.0 (g.K.Sink.written c.args.sink.now) c.push_reserved.new.self.items items
           c.begun.ensures.desc r.1 (c.begun.ensures.left c.args.strings.now r.0 r.1 c.requires.some) (Appends-nil (g.K.Sink.written c.args.sink.now));

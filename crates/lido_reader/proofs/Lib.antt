@@ -15,5 +15,7 @@ pub mod SureExpressionsLemmas
 pub mod SureComputationsLemmas
 pub mod SureMessagesLemmas
 pub mod SureItemsLemmas
+pub mod NumbersLemmas
+pub mod KnownLemmas
 pub mod ExampleTree
 pub mod ExampleSyntax

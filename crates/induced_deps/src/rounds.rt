@@ -11,41 +11,13 @@ use crate::graph::Place;
 use flat_grammar::Bits;
 use lido_base::List;
 
-/// How many rows it takes at least until to close all edges anew costs less than to add what follows row by row.
-const MANY: usize = 16;
+/// How many rows of a rule's symbols are joined one by one at a visit. Where more have something new, all edges are closed at once,
+/// which then costs less.
+const FEW: usize = 16;
 
-/// How many rows of the symbol at a place have edges that aren't there.
-fn new_rows(place: Place, rows: &[Bits], closure: &Closure) -> usize
-    requires size { length rows.now ≡ place.width }
-    requires wide { place.width ≤ 256 }
-    requires within { place.offset + place.width ≤ length closure.now.rows.items }
-    requires few { length closure.now.rows.items ≤ 1024 }
-{
-    let mut count: usize = 0;
-    for (a, row) in rows.iter().enumerate() {
-        if !row.is_within(attributes_of(&closure.rows[place.offset + a], place)) {
-            count = count.saturating_add(1);
-        }
-    }
-    count
-}
-
-/// How many rows of the symbols at the places have edges that aren't there.
-fn all_new_rows(places: &[Place], ids: &[List<Bits>], closure: &Closure) -> usize
-    requires rows { All (HasRow ids.now) places.now }
-    requires within { AreWithin places.now (length closure.now.rows.items) }
-    requires few { length closure.now.rows.items ≤ 1024 }
-{
-    let mut count: usize = 0;
-    for place in places {
-        let rows = ids[place.symbol.0 as usize].as_slice();
-        count = count.saturating_add(new_rows(*place, rows, closure));
-    }
-    count
-}
-
-/// Adds edges from a vertex of a place, by the row of its attribute, and where `closed` what follows from them.
-fn join_row(place: Place, a: usize, row: Bits, closed: bool, closure: &mut Closure)
+/// Adds edges from a vertex of a place, by the row of its attribute, and where `closed` what follows from them. It tells whether any
+/// was new.
+fn join_row(place: Place, a: usize, row: Bits, closed: bool, closure: &mut Closure) -> bool
     requires attribute { a < place.width }
     requires wide { place.width ≤ 256 }
     requires within { place.offset + place.width ≤ length closure.old.rows.items }
@@ -57,45 +29,54 @@ fn join_row(place: Place, a: usize, row: Bits, closed: bool, closure: &mut Closu
 {
     let from = place.offset + a;
     let known = attributes_of(&closure.rows[from], place);
-    if !row.is_within(known) {
-        closure.join(from, &vertices_of(row.without(known), place), closed);
+    if row.is_within(known) {
+        return false;
     }
+    closure.join(from, &vertices_of(row.without(known), place), closed);
+    true
 }
 
-/// Adds edges between the vertices of a place, by the rows of its symbol, and where `closed` what follows from them.
-fn join_rows(place: Place, rows: &[Bits], closed: bool, closure: &mut Closure)
+/// Adds edges between the vertices of a place, by the rows of its symbol. What follows from them is added for so many rows with
+/// something new, and it tells how many more it may still be. Where it is none, something may be missing.
+fn join_rows(place: Place, rows: &[Bits], most: usize, closure: &mut Closure) -> usize
     requires size { length rows.now ≡ place.width }
     requires wide { place.width ≤ 256 }
     requires within { place.offset + place.width ≤ length closure.old.rows.items }
     requires few { length closure.old.rows.items ≤ 1024 }
-    requires transitive { IsTrue closed → IsTransitive closure.old.rows.items }
+    requires transitive { 0 < most → IsTransitive closure.old.rows.items }
     ensures size { length closure.new.rows.items ≡ length closure.old.rows.items }
-    ensures transitive { IsTrue closed → IsTransitive closure.new.rows.items }
+    ensures transitive { 0 < result → IsTransitive closure.new.rows.items }
     ensures edges { Gains closure.old.rows.items closure.new.rows.items (OfRows place rows.now place.width) }
 {
+    let mut left = most;
     for (a, row) in rows.iter().enumerate() {
-        join_row(place, a, *row, closed, closure);
+        if join_row(place, a, *row, left > 0, closure) {
+            left = left.saturating_sub(1);
+        }
     }
+    left
 }
 
-/// Adds edges between the vertices of each place, by the rows of its symbol, and where `closed` what follows from them.
-fn join_induced(places: &[Place], ids: &[List<Bits>], closed: bool, closure: &mut Closure)
+/// Adds edges between the vertices of each place, by the rows of its symbol, and tells as `join_rows` does whether all that follows
+/// is there.
+fn join_induced(places: &[Place], ids: &[List<Bits>], closure: &mut Closure) -> usize
     requires rows { All (HasRow ids.now) places.now }
     requires within { AreWithin places.now (length closure.old.rows.items) }
     requires few { length closure.old.rows.items ≤ 1024 }
-    requires transitive { IsTrue closed → IsTransitive closure.old.rows.items }
+    requires transitive { IsTransitive closure.old.rows.items }
     ensures size { length closure.new.rows.items ≡ length closure.old.rows.items }
-    ensures transitive { IsTrue closed → IsTransitive closure.new.rows.items }
+    ensures transitive { 0 < result → IsTransitive closure.new.rows.items }
     ensures edges { Gains closure.old.rows.items closure.new.rows.items (OfPlaces ids.now places.now) }
 {
+    let mut left = FEW;
     for place in places {
         let rows = ids[place.symbol.0 as usize].as_slice();
-        join_rows(*place, rows, closed, closure);
+        left = join_rows(*place, rows, left, closure);
     }
+    left
 }
 
-/// Adds edges between the vertices of each place, by the rows of its symbol, and what follows from them: where few rows are new, row
-/// by row, else for all at once.
+/// Adds edges between the vertices of each place, by the rows of its symbol, and what follows from them.
 pub fn add_induced(places: &[Place], ids: &[List<Bits>], closure: &mut Closure)
     requires rows { All (HasRow ids.now) places.now }
     requires within { AreWithin places.now (length closure.old.rows.items) }
@@ -105,12 +86,9 @@ pub fn add_induced(places: &[Place], ids: &[List<Bits>], closure: &mut Closure)
     ensures transitive { IsTransitive closure.new.rows.items }
     ensures edges { Gains closure.old.rows.items closure.new.rows.items (OfPlaces ids.now places.now) }
 {
-    if all_new_rows(places, ids, closure) < MANY {
-        join_induced(places, ids, true, closure);
-        return;
+    if join_induced(places, ids, closure) == 0 {
+        closure.close();
     }
-    join_induced(places, ids, false, closure);
-    closure.close();
 }
 
 /// Puts the attributes of the set into a row, and tells whether any was new.

@@ -3,12 +3,12 @@ use Rattle.induced_deps.proofs.RoundLemmas.{no_places, one_place_more, row_is}
 use Rattle.induced_deps.proofs.rounds.join_induced.Goals as goal
 
 pub loop-place-init : goal.loop-place-init
-loop-place-init c = record { size = refl; transitive = c.requires.transitive; edges = no_places c.args.closure.now.rows.items c.args.ids.now }
+loop-place-init c = record { size = refl; transitive = λ some. c.requires.transitive; edges = no_places c.args.closure.now.rows.items c.args.ids.now }
 
 pub loop-place-preserved : goal.loop-place-preserved
 loop-place-preserved c =
     let l = c.loop-place in
-    let p = c.join_rows in
+    let p = c.join_rows-left in
     record {
       size = p.ensures.size ∙ l.invariant.size;
       transitive = p.ensures.transitive;

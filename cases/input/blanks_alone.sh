@@ -1,0 +1,2 @@
+. "$(dirname "$0")/../parts/large.sh"
+printf "" | filled 8388608

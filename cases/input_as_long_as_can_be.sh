@@ -1,2 +1,0 @@
-. "$(dirname "$0")/parts/large.sh"
-small | filled 8388608

@@ -1,2 +1,0 @@
-. "$(dirname "$0")/parts/large.sh"
-printf "" | filled 8388608

@@ -1,2 +1,0 @@
-. "$(dirname "$0")/parts/large.sh"
-nested '(rAdd(rNum 1)' ')' 524288

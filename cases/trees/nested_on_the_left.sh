@@ -1,0 +1,2 @@
+. "$(dirname "$0")/../parts/large.sh"
+nested '(rAdd ' ' (rNum 1))' 300000

@@ -6,7 +6,7 @@ use Rattle.std.proofs.lemmas.Bool.{cases_lt}
 use Rattle.std.proofs.lemmas.Bool.Decides.{nat_tests}
 use Rattle.std.proofs.lemmas.Option.{none-some}
 use Rattle.std.proofs.lemmas.Slice.Eq.{bytes_eq-Decides}
-use Rattle.lido_lexer.proofs.Options.{held}
+use Rattle.std.proofs.lemmas.Option.{same_Some}
 use Rattle.lido_base.specs.Plain.{Plain, Int, Str}
 use Rattle.lido_base.specs.Texts.{IsDistinctTexts}
 use Rattle.lido_base.specs.Tree.{Tree, Node, Item, Child, Leaf, IsTree, items_of, parent_of, rule_at, contains, children, is_just}
@@ -88,7 +88,7 @@ drop_empty (y ∷ xs) (suc k) e = omega (arith, drop_empty xs k e)
 
 drop_here : {X : Type 0} (xs : List X) (k : ℕ) (x : X) → slice_get xs k ≡ Some x → drop k xs ≡ x ∷ drop (suc k) xs
 drop_here [] k x is = absurd (none-some _ is)
-drop_here (y ∷ xs) zero x is = ap (λ (z : _). z ∷ xs) (held is)
+drop_here (y ∷ xs) zero x is = ap (λ (z : _). z ∷ xs) (same_Some _ _ is)
 drop_here (y ∷ xs) (suc k) x is = drop_here xs k x is
 
 drop_nil : {X : Type 0} (n : ℕ) → drop {A = X} n [] ≡ []
@@ -119,7 +119,7 @@ there (x ∷ xs) (suc k) less = there xs k (omega (arith, less))
 
 index_is : {X : Type 0} (xs : List X) (k : ℕ) (x d : X) → slice_get xs k ≡ Some x → slice_index_or xs k d ≡ x
 index_is [] k x d is = absurd (none-some _ is)
-index_is (y ∷ xs) zero x d is = held is
+index_is (y ∷ xs) zero x d is = same_Some _ _ is
 index_is (y ∷ xs) (suc k) x d is = index_is xs k x d is
 
 inside : {X : Type 0} (xs : List X) (k : ℕ) (x : X) → slice_get xs k ≡ Some x → k < length xs
@@ -234,7 +234,7 @@ module _ (symbols : List FlatSymbol) (rules : List FlatRule) (shapes : List Shap
   is_named n name (r, (i, rule, at), text) =
       let shaped = fits.shaped n (rule_of t n i rule) in
       let shape : Shape = shaped.0 in
-      let same_rule : i ≡ shape.rule.0 = held (sym rule ∙ shaped.1.1) in
+      let same_rule : i ≡ shape.rule.0 = same_Some _ _ (sym rule ∙ shaped.1.1) in
       let has : has_name symbols rules shapes root texts name shape ≡ true
       = ap (λ (k : ℕ). elim (option_and_then (λ (q : FlatRule). slice_get texts q.name.0) (slice_get rules k)) as (λ _. Bool) [ None ↦ false | Some l ↦ bytes_eq l name ]) (sym same_rule)
       ∙ ap (λ (o : Option FlatRule). elim (option_and_then (λ (q : FlatRule). slice_get texts q.name.0) o) as (λ _. Bool) [ None ↦ false | Some l ↦ bytes_eq l name ]) at
@@ -263,7 +263,7 @@ module _ (symbols : List FlatSymbol) (rules : List FlatRule) (shapes : List Shap
 
   left_known : (n x : ℕ) (s : SymId) → rule_at t n ≡ Some (shape_at shapes x).rule.0 → HasSymbol rules t n s → left_of symbols rules shapes root (shape_at shapes x) ≡ Some s
   left_known n x s rule (r, (i, at, there_rule), left) =
-      let same_rule : (shape_at shapes x).rule.0 ≡ i = held (sym rule ∙ at) in
+      let same_rule : (shape_at shapes x).rule.0 ≡ i = same_Some _ _ (sym rule ∙ at) in
       ap (λ (k : ℕ). option_map (λ (q : FlatRule). q.left) (slice_get rules k)) same_rule
       ∙ ap (λ (o : Option FlatRule). option_map (λ (q : FlatRule). q.left) o) there_rule
       ∙ ap (λ (q : SymId). Some q) left
@@ -349,7 +349,7 @@ module _ (symbols : List FlatSymbol) (rules : List FlatRule) (shapes : List Shap
       let here = there t n (rule_of t n (shape_at shapes y.shape).rule.0 y.rule) in
       let x : Node Plain = here.0 in
       here.1 ∙ ap (λ (z : Node Plain). Some z) (node_is x (written_node n p k name c below)
-      (held (sym (ap (λ (o : Option (Node Plain)). option_map (λ (z : Node Plain). z.rule) o) here.1) ∙ y.rule) ∙ sym (named_rule name y.shape y.named))
+      (same_Some _ _ (sym (ap (λ (o : Option (Node Plain)). option_map (λ (z : Node Plain). z.rule) o) here.1) ∙ y.rule) ∙ sym (named_rule name y.shape y.named))
       (sym (ap (λ (o : Option (Node Plain)). option_and_then (λ (z : Node Plain). z.parent) o) here.1) ∙ parent_is p k n at)
       (sym (ap (λ (o : Option (Node Plain)). elim o as (λ _. ℕ) [ None ↦ 0 | Some z ↦ z.place ]) here.1) ∙ fits.tree.places_agree p k n at)
       (sym (ap (λ (o : Option (Node Plain)). elim o as (λ _. ℕ) [ None ↦ 0 | Some z ↦ z.line ]) here.1) ∙ ap (λ (d : Coordinates). d.line) stands)
@@ -375,7 +375,7 @@ module _ (symbols : List FlatSymbol) (rules : List FlatRule) (shapes : List Shap
       → table g rule c below ≡ u
   table_by [] rule c below tree is stands its rest size = absurd (none-some _ is)
   table_by (x ∷ u) rule c below tree is stands its rest size =
-      let first : x ≡ table_node rule None 0 c (items g 1 below) = node_is x (table_node rule None 0 c (items g 1 below)) (held is) tree.root_first tree.root_place (ap (λ (d : Coordinates). d.line) stands) (ap (λ (d : Coordinates). d.column) stands) its in
+      let first : x ≡ table_node rule None 0 c (items g 1 below) = node_is x (table_node rule None 0 c (items g 1 below)) (same_Some _ _ is) tree.root_first tree.root_place (ap (λ (d : Coordinates). d.line) stands) (ap (λ (d : Coordinates). d.column) stands) its in
       ap (λ (l : Tree Plain). table_node rule None 0 c (items g 1 below) ∷ l) (sym rest ∙ take_whole u (count below) (omega (arith, size)))
       ∙ ap (λ (y : Node Plain). y ∷ u) (sym first)
 

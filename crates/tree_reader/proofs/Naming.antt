@@ -11,7 +11,7 @@ use Rattle.lido_base.specs.Texts.{IsDistinctTexts, with_text}
 use Rattle.lido_base.proofs.TextsLemmas.{same_place}
 use Rattle.lido_lexer.specs.Lexing.{Gains}
 use Rattle.lido_lexer.proofs.BytesLemmas.{same, differ}
-use Rattle.lido_lexer.proofs.Options.{held}
+use Rattle.std.proofs.lemmas.Option.{same_Some}
 use Rattle.flat_grammar.specs.declared.flat.FlatRule.{FlatRule}
 use Rattle.flat_grammar.specs.declared.flat.FlatSymbol.{FlatSymbol}
 use Rattle.flat_grammar.specs.declared.flat.Shape.{Shape}
@@ -70,7 +70,7 @@ module _ (texts all : List (List ℕ)) (gains : Gains texts all) (apart : IsDist
   called j None e less true w is named = absurd (none-some name (sym e ∙ ap (slice_get texts) (same is) ∙ (let at : slice_get all id ≡ slice_get texts id = ap (λ (l : List (List ℕ)). slice_get l id) gains.behind ∙ kept_back texts gains.added id less in sym at ∙ there)))
   called j None e less false w is named = sym named
   called j (Some text) e less true w is named =
-      let here : text ≡ name = held (sym (in_all j text e) ∙ ap (slice_get all) (same is) ∙ there) in sym (sym ((bytes_eq-Decides text name).1 here) ∙ named)
+      let here : text ≡ name = same_Some _ _ (sym (in_all j text e) ∙ ap (slice_get all) (same is) ∙ there) in sym (sym ((bytes_eq-Decides text name).1 here) ∙ named)
   called j (Some text) e less false true is named =
       let here : text ≡ name = (bytes_eq-Decides text name).0 named in
       let places : j ≡ id = same_place all apart j id name (in_all j text e ∙ ap (λ (l : List ℕ). Some l) here) there in
@@ -199,7 +199,7 @@ flat_is None = refl
 flat_is (Some x) = refl
 
 inside_test : {X : Type 0} (p : X → Bool) (k j : ℕ) (xs : List X) (b : Bool) → (first_from (suc k) p xs ≡ Some j → j < suc k + length xs) → (if b then Some k else first_from (suc k) p xs) ≡ Some j → j < k + suc (length xs)
-inside_test p k j xs true later e = let same_k : k ≡ j = held e in omega (arith, same_k)
+inside_test p k j xs true later e = let same_k : k ≡ j = same_Some _ _ e in omega (arith, same_k)
 inside_test p k j xs false later e = omega (arith, later e)
 
 pub first_inside : {X : Type 0} (p : X → Bool) (k j : ℕ) (xs : List X) → first_from k p xs ≡ Some j → j < k + length xs

@@ -6,7 +6,7 @@ use Rattle.std.specs.List.{AllZip, list_any}
 use Rattle.std.proofs.lemmas.Bool.{cases_lt}
 use Rattle.std.proofs.lemmas.Int.{ints}
 use Rattle.std.proofs.lemmas.Option.{none-some}
-use Rattle.lido_lexer.proofs.Options.{held}
+use Rattle.std.proofs.lemmas.Option.{same_Some}
 use Rattle.lido_base.specs.Plain.{Plain, Int, Str}
 use Rattle.lido_base.specs.Tree.{Tree, Item, Child, Leaf, items_of, rule_at}
 use Rattle.lido_base.specs.declared.ids.SymId.{SymId}
@@ -84,7 +84,7 @@ read_from (Some x) root whole faulty t unknown wrong e = by (root x) (faulty x) 
 
 left_is : (o : Option FlatRule) (s : SymId) → option_map (λ (r : FlatRule). r.left) o ≡ Some s → (r : FlatRule) × (o ≡ Some r) × (r.left ≡ s)
 left_is None s e = absurd (none-some _ e)
-left_is (Some r) s e = (r, refl, held e)
+left_is (Some r) s e = (r, refl, same_Some _ _ e)
 
 of_left : (o : Option SymId) (test : SymId → Bool) → elim o as (λ _. Bool) [ None ↦ false | Some s ↦ test s ] ≡ true → (s : SymId) × (o ≡ Some s) × (test s ≡ true)
 of_left None test e = absurd (true≢false (sym e))
@@ -252,7 +252,7 @@ module _ (symbols : List FlatSymbol) (rules : List FlatRule) (shapes : List Shap
     the_shape : (t : Tree Plain) (m : ℕ) (shape : Shape) → FitsAt t m → HasShape shapes t m shape → (x : ℕ) × (shape_at shapes x ≡ shape) × AreChildren t x 0 (items_of t m)
     the_shape t m shape fits (among_shapes, rule) = (
       fits.shape,
-      one_shape _ rules 0 shapes (shape_at shapes fits.shape) shape formed.each_shape (contains_at shapes fits.shape no_shape fits.there) among_shapes (held (sym fits.rule ∙ rule)),
+      one_shape _ rules 0 shapes (shape_at shapes fits.shape) shape formed.each_shape (contains_at shapes fits.shape no_shape fits.there) among_shapes (same_Some _ _ (sym fits.rule ∙ rule)),
       fits.children,
     )
 

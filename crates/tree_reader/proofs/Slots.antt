@@ -6,7 +6,7 @@ use Rattle.std.proofs.lemmas.Bool.Decides.{nat_tests}
 use Rattle.std.proofs.lemmas.Option.{none-some}
 use Rattle.lido_base.specs.declared.ids.SymId.{SymId}
 use Rattle.lido_lexer.proofs.BytesLemmas.{same}
-use Rattle.lido_lexer.proofs.Options.{held}
+use Rattle.std.proofs.lemmas.Option.{same_Some}
 use Rattle.flat_grammar.specs.declared.flat.FlatRule.{FlatRule}
 use Rattle.flat_grammar.specs.declared.flat.Shape.{Shape}
 use Rattle.flat_grammar.specs.WellFormed.{is_same_symbol, positions_from}
@@ -40,7 +40,7 @@ module _ {X : Type 0} (IsIt : SymId → X → Type 0) where
 
   drop_at : (right : List SymId) (k : ℕ) (s : SymId) → slice_get right k ≡ Some s → drop k right ≡ s ∷ drop (suc k) right
   drop_at [] k s is = absurd (none-some _ is)
-  drop_at (q ∷ right) zero s is = ap (λ (x : SymId). x ∷ right) (held is)
+  drop_at (q ∷ right) zero s is = ap (λ (x : SymId). x ∷ right) (same_Some _ _ is)
   drop_at (q ∷ right) (suc k) s is = drop_at right k s is
 
   drop_past : (right : List SymId) (k : ℕ) → length right ≤ k → drop k right ≡ []

@@ -1,9 +1,10 @@
 //! What a flat grammar asks of written trees.
 ghost use Rattle.std.specs.Prelude.{◌≡◌, ◌||◌, nat_le, length, false, slice_get, Some, None};
-ghost use Rattle.std.specs.List.{list_any};
 ghost use Rattle.flat_grammar.specs.WellFormed.{is_same_symbol};
 ghost use Rattle.tree_reader.specs.Asking.{is_same_type, left_of, may_be, type_of, may_be_value, may_be_node, may_be_root};
+ghost use Rattle.tree_reader.specs.Elements.{AreMarked};
 
+use crate::elements::is_element;
 use flat_grammar::{Flat, Shape};
 use lido_base::{SymId, ValueType};
 
@@ -31,13 +32,6 @@ fn left_of(flat: &Flat, shape: &Shape) -> Option<SymId>
         .map(|rule| rule.left)
 }
 
-/// The symbol is among these.
-fn is_among(symbols: &[SymId], symbol: SymId) -> bool
-    ensures { result ≡ list_any (is_same_symbol symbol) symbols.now }
-{
-    symbols.iter().any(|q| symbol.0 == q.0)
-}
-
 /// The symbol stands at this place.
 fn stands_at(symbols: &[SymId], k: usize, symbol: SymId) -> bool
     ensures { result ≡ elim (slice_get symbols.now k) [ None ↦ false | Some q ↦ is_same_symbol symbol q ] }
@@ -48,12 +42,13 @@ fn stands_at(symbols: &[SymId], k: usize, symbol: SymId) -> bool
     }
 }
 
-/// Child k of a node of the shape, counted from 0, may be of the symbol.
-fn may_be(shape: &Shape, k: usize, symbol: SymId) -> bool
+/// Child k of a node of the shape, counted from 0, may be of the symbol. The row marks the elements of the shape's list.
+fn may_be(shape: &Shape, row: &[bool], k: usize, symbol: SymId) -> bool
+    requires { AreMarked shape.now.right row.now }
     ensures { result ≡ may_be shape.now k symbol }
 {
     if shape.list {
-        is_among(shape.right.as_slice(), symbol)
+        is_element(row, shape.right.as_slice(), symbol)
     } else {
         stands_at(shape.right.as_slice(), k, symbol)
     }
@@ -85,12 +80,13 @@ pub fn may_be_value(flat: &Flat, shape: &Shape, k: usize, ty: ValueType) -> bool
     }
 }
 
-/// Child k of a node of the shape may be a node of the other shape.
-pub fn may_be_node(flat: &Flat, shape: &Shape, k: usize, other: &Shape) -> bool
+/// Child k of a node of the shape may be a node of the other shape. The row marks the elements of the shape's list.
+pub fn may_be_node(flat: &Flat, shape: &Shape, row: &[bool], k: usize, other: &Shape) -> bool
+    requires { AreMarked shape.now.right row.now }
     ensures { result ≡ may_be_node flat.now.symbols flat.now.rules flat.now.shapes flat.now.root shape.now k other.now }
 {
     match left_of(flat, other) {
-        Some(symbol) => may_be(shape, k, symbol),
+        Some(symbol) => may_be(shape, row, k, symbol),
         None => false,
     }
 }

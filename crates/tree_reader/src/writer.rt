@@ -15,11 +15,13 @@ ghost use Rattle.tree_store.specs.Growth.{IsOpen};
 ghost use Rattle.tree_reader.specs.Asking.{IsNameTable, asked, shape_at};
 ghost use Rattle.tree_reader.specs.WrittenTrees.{Asked, coordinates_of, node_fault, most_nodes, meaning, own};
 ghost use Rattle.tree_reader.specs.Language.{Forest, parts_of, IsOneNode};
+ghost use Rattle.tree_reader.specs.Elements.{AreElementRows};
 ghost use Rattle.tree_reader.specs.Ints.{HasInt};
 ghost use Rattle.tree_reader.specs.Tables.{IsRead, IsTable, begins};
 ghost use Rattle.tree_reader.specs.Writing.{RefusesIf, StopsAt, IsWritten, FailsAs, IsMeaning, IsFirstPart};
 
 use crate::asking::{is_enough, may_be_node, may_be_root, may_be_value};
+use crate::elements::{element_rows, row_at};
 use crate::names::{find_named, name_table};
 use crate::part::{Coordinates, Part};
 use flat_grammar::{Flat, Shape};
@@ -100,6 +102,7 @@ fn close(flat: &Flat, parent: Open, at: u32) -> Result<(), TreeFault>
 fn child_shape(
     flat: &Flat,
     names: &[Option<usize>],
+    rows: &[List<bool>],
     strings: &mut Strings,
     count: u32,
     parent: Open,
@@ -110,6 +113,7 @@ fn child_shape(
     requires shape { parent.shape < length flat.now.shapes }
     requires few_nodes { count ≤ most_nodes }
     requires table { IsNameTable flat.now.rules flat.now.shapes (length names.now) names.now }
+    requires elements { AreElementRows flat.now.shapes rows.now }
     ensures inside { IfOk result (λ k. k < length flat.now.shapes) }
     ensures few { OnOk result (count < most_nodes) }
     ensures named { IfOk result (λ k. (texts : List (List ℕ)) → Gains texts strings.old → length texts ≡ length names.now
@@ -131,6 +135,7 @@ fn child_shape(
     if !may_be_node(
         flat,
         shape_at(flat, parent.shape),
+        row_at(rows, parent.shape),
         parent.has as usize,
         shape_at(flat, k),
     ) {
@@ -249,6 +254,7 @@ fn own_coordinates(coordinates: Option<Coordinates>, above: Coordinates) -> Coor
 fn write_node(
     flat: &Flat,
     names: &[Option<usize>],
+    rows: &[List<bool>],
     strings: &mut Strings,
     tree: &mut Tree,
     outer: &mut List<Open>,
@@ -259,6 +265,7 @@ fn write_node(
     coordinates: Option<Coordinates>,
 ) -> Result<Open, TreeFault>
     requires table { IsNameTable flat.now.rules flat.now.shapes (length names.now) names.now }
+    requires elements { AreElementRows flat.now.shapes rows.now }
     requires shape { parent.shape < length flat.now.shapes }
     requires is_open { IsOpen tree.old parent.node }
     requires has { parent.has ≡ places tree.old parent.node }
@@ -279,7 +286,10 @@ fn write_node(
     ensures distinct { IsDistinctTexts strings.new }
     ensures few_nodes { OnOk result (length tree.new ≤ most_nodes) }
 {
-    let shape = match child_shape(flat, names, strings, tree.len(), parent, at, name_at, name) {
+    let count = tree.len();
+    let shape = match child_shape(
+        flat, names, rows, strings, count, parent, at, name_at, name,
+    ) {
         Ok(shape) => shape,
         Err(e) => return Err(e),
     };
@@ -356,6 +366,7 @@ fn first_node(
 fn write_part(
     flat: &Flat,
     names: &[Option<usize>],
+    rows: &[List<bool>],
     strings: &mut Strings,
     tree: &mut Tree,
     outer: &mut List<Open>,
@@ -363,6 +374,7 @@ fn write_part(
     part: &Part,
 ) -> Result<Option<Open>, TreeFault>
     requires table { IsNameTable flat.now.rules flat.now.shapes (length names.now) names.now }
+    requires elements { AreElementRows flat.now.shapes rows.now }
     requires shape { parent.shape < length flat.now.shapes }
     requires is_open { IsOpen tree.old parent.node }
     requires has { parent.has ≡ places tree.old parent.node }
@@ -393,6 +405,7 @@ fn write_part(
             match write_node(
                 flat,
                 names,
+                rows,
                 strings,
                 tree,
                 outer,
@@ -462,6 +475,10 @@ pub fn write_tree(
         return Err(TreeFault::Memory);
     };
     let names = names.as_slice();
+    let Ok(rows) = element_rows(alloc, flat) else {
+        return Err(TreeFault::Memory);
+    };
+    let rows = rows.as_slice();
     let (name_at, name, coordinates, rest) = first_name(parts);
     let first = first_node(alloc, flat, names, strings, name_at, name, coordinates);
     let (mut tree, root) = match first {
@@ -474,7 +491,7 @@ pub fn write_tree(
         let Some(parent) = current else {
             unreachable!();
         };
-        match write_part(flat, names, strings, &mut tree, &mut outer, parent, part) {
+        match write_part(flat, names, rows, strings, &mut tree, &mut outer, parent, part) {
             Ok(next) => current = next,
             Err(e) => return Err(e),
         }

@@ -4,6 +4,7 @@
 //! `parts` builds grammars for the trials above.
 #![tactic(auto)]
 
+pub mod cells_of_operations;
 pub mod crossed_uses;
 pub mod late_inherited;
 pub mod list_of_items;

@@ -1,30 +1,20 @@
 -- Ascending lists of a class's attributes, and the attributes in later classes.
 use Rattle.std.specs.Prelude.{IsBitSet, Contains, slice_get, IsSome, ◌*◌, map}
 use Rattle.std.specs.List.Sorted.{IsStrictlyIncreasing}
-use Rattle.std.proofs.Common.{◌≡◌, ℕ, zero, suc, ◌+◌, ◌-◌, ◌<◌, ◌⊎◌, inl, inr, ◌↔◌, List, [], ◌∷◌, ◌++◌, length, length-append, Some, get_or, refl, sym, ap, subst, ◌∙◌, arith}
+use Rattle.std.proofs.Common.{◌≡◌, ℕ, zero, suc, ◌+◌, ◌-◌, ◌<◌, ◌⊎◌, inl, inr, ◌↔◌, List, [], ◌∷◌, ◌++◌, length, Some, refl, sym, subst, ◌∙◌, arith}
 use Rattle.std.proofs.lemmas.Bool.{cases_lt}
-use Rattle.std.proofs.lemmas.List.{get_or_append_left, map-append}
-use Rattle.std.proofs.lemmas.List.Elements.{Contains-append_left, Contains-append_right}
-use Rattle.std.proofs.lemmas.Option.{slice_get-get_or}
-use Rattle.std.proofs.Math.Seq.{get_or-append_seam}
 use Rattle.lido_base.specs.declared.ids.SymId.{SymId}
 use Rattle.lido_base.specs.declared.ids.AttrId.{AttrId}
 use Rattle.flat_grammar.specs.declared.flat.FlatSymbol.{FlatSymbol}
 use Rattle.flat_grammar.specs.declared.flat.FlatRule.{FlatRule}
 use Rattle.flat_grammar.specs.declared.plan.VisitClass.{VisitClass}
-use Rattle.flat_grammar.specs.Rules.{attribute_at, attrs_of}
+use Rattle.flat_grammar.specs.Rules.{attribute_at}
 use Rattle.flat_grammar.specs.Partition.{IsPeeled, IsClass, IsEarlier}
-use Rattle.flat_grammar.proofs.Lists.{contains-first, slice_get-contains, contains-slice_get}
 use Rattle.flat_grammar.proofs.PartitionLemmas.{IsPeeled-grows}
 use Rattle.partitions.specs.declared.peeling.Levels.{Levels}
 use Rattle.partitions.specs.Peeling.{ArePeeled, AreLevels, AreAllLevels, IsLast, IsPastAmong}
-use Rattle.partitions.proofs.PeelingLemmas.{pushed-get, get-below, peeled-attribute, attribute-below}
-
-pub pushed-contains : {X : Type 0} (xs : List X) (y z : X) → Contains (xs ++ (y ∷ [])) z → Contains xs z ⊎ (y ≡ z)
-pushed-contains xs y z m = let p = slice_get-contains (xs ++ (y ∷ [])) z m in elim (pushed-get xs y p.0 z p.1) [ inl old ↦ inl (contains-slice_get xs p.0 z old) | inr new ↦ inr new.1 ]
-
-pub contains-pushed : {X : Type 0} (xs : List X) (y : X) → Contains (xs ++ (y ∷ [])) y
-contains-pushed xs y = Contains-append_right xs (y ∷ []) y (contains-first y [])
+use Rattle.partitions.proofs.PeelingLemmas.{pushed-get, get-below}
+pub use Rattle.std.proofs.lemmas.List.Elements.{Contains-push_cases as pushed-contains, Contains-push as contains-pushed}
 
 halves : (m : ℕ) → (j : ℕ) × ((m ≡ 2 * j) ⊎ (m ≡ 2 * j + 1))
 halves zero = (0, inl refl)

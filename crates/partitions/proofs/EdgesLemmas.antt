@@ -1,10 +1,10 @@
 -- The predecessors of vertices, list by list.
 use Rattle.std.specs.Prelude.{IsBitSet, Contains, slice_get, sum_by, ◌↔◌}
-use Rattle.std.proofs.Common.{◌≡◌, ℕ, zero, suc, ◌+◌, ◌<◌, ◌≤◌, ◌⊎◌, inl, inr, List, [], ◌∷◌, ◌++◌, take, length, Some, get_or, sym, ap, subst, ◌∙◌, arith}
+use Rattle.std.proofs.Common.{◌≡◌, ℕ, zero, suc, ◌+◌, ◌<◌, ◌≤◌, ◌⊎◌, inl, inr, List, [], ◌∷◌, ◌++◌, take, length, Some, sym, ap, subst, ◌∙◌, arith}
 use Rattle.std.proofs.lemmas.Bool.{cases_lt}
 use Rattle.std.proofs.lemmas.List.Elements.{Contains-append_left}
 use Rattle.std.proofs.lemmas.List.Sums.{sum_by-cons}
-use Rattle.std.proofs.lemmas.Option.{none-some, slice_get-get_or}
+use Rattle.std.proofs.lemmas.Option.{none-some}
 use Rattle.lido_base.specs.declared.ids.SymId.{SymId}
 use Rattle.flat_grammar.specs.declared.flat.Occ.{Occ}
 use Rattle.flat_grammar.specs.declared.flat.FlatRule.{FlatRule}

@@ -1,9 +1,8 @@
 -- The graph of a rule has the edges of its extended dependencies.
-use Rattle.std.specs.Prelude.{Bool, Contains, slice_get, All, ◌↔◌, IsSome, IsTrue, is_some, false, true, ◌||◌, ◌&&◌, map, ◌==◌}
-use Rattle.std.specs.List.{flat_map, list_any}
+use Rattle.std.specs.Prelude.{Bool, Contains, slice_get, All, ◌↔◌, IsSome, IsTrue, is_some, false, true, ◌||◌, ◌&&◌, ◌==◌}
+use Rattle.std.specs.List.{list_any}
 use Rattle.std.proofs.Common.{◌≡◌, ℕ, zero, suc, ◌+◌, ◌<◌, ◌≤◌, ◌⊎◌, inl, inr, List, [], ◌∷◌, length, Option, Some, None, get_or, refl, sym, ap, subst, ◌∙◌, arith, eq-eqb}
 use Rattle.std.proofs.lemmas.Option.{slice_get-get_or}
-use Rattle.std.proofs.lemmas.List.Elements.{Contains-append_left, Contains-append_right, Contains-append_cases}
 use Rattle.lido_base.specs.declared.ids.SymId.{SymId}
 use Rattle.lido_base.specs.declared.ids.AttrId.{AttrId}
 use Rattle.flat_grammar.specs.declared.flat.Occ.{Occ}
@@ -15,7 +14,7 @@ use Rattle.flat_grammar.specs.Rules.{symbol_at, symbols_of, attribute_at, attrs_
 use Rattle.flat_grammar.specs.WellFormed.{attribute_of, is_goal_kind, is_same_occ, IsRule}
 use Rattle.flat_grammar.specs.Dependencies.{DP, IDS, AreInducedRows}
 use Rattle.flat_grammar.specs.Cycles.{DS}
-use Rattle.flat_grammar.proofs.Lists.{held, contains-nil, contains-cons, contains-first, contains-later, contains-slice_get, slice_get-contains}
+use Rattle.flat_grammar.proofs.Lists.{held, contains-nil, contains-cons}
 use Rattle.flat_grammar.proofs.DependenciesLemmas.{IDS-least}
 use Rattle.partitions.specs.Symbols.{rows_at, AreAllLaterRows}
 use Rattle.partitions.specs.Graph.{IsEdge}
@@ -23,9 +22,7 @@ use Rattle.partitions.specs.RuleGraph.{AreNumbered, IsComing, IsNumberOf, IsComi
 use Rattle.partitions.proofs.PeelingLemmas.{below-length, get-below, attribute-below, peeled-attribute, attributes-few}
 use Rattle.partitions.proofs.SymbolsLemmas.{rows-of}
 use Rattle.partitions.proofs.VerticesLemmas.{occ-some, occ-below}
-
-pub all-at : {X : Type 0} (P : X → Type 0) (xs : List X) (x : X) → All P xs → Contains xs x → P x
-all-at P xs x all (k, l, e) = subst P e (all k x l)
+pub use Rattle.std.proofs.lemmas.List.Elements.{All-contains as all-at}
 
 any-true : {X : Type 0} (p : X → Bool) (xs : List X) (x : X) → Contains xs x → p x ≡ true → list_any p xs ≡ true
 any-true p [] x m e = absurd (contains-nil x m)

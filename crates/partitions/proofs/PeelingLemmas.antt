@@ -19,6 +19,8 @@ use Rattle.partitions.specs.Peeling.{AreRows, ArePeeled, AreLevels, AreAllLevels
 use Rattle.std.proofs.lemmas.Nat.Bits.{bit_at_ones}
 use Rattle.flat_grammar.proofs.BitsLemmas.{is-set, empty-set, within-le, set-of}
 use Rattle.flat_grammar.proofs.PeelingLemmas.{IDS-transitive, even-kind, odd-kind, closed-more, last-pair}
+pub use Rattle.std.proofs.lemmas.Option.{slice_get_within as below-length}
+pub use Rattle.lido_base.proofs.Lists.{place-below as get-below}
 
 -- A set of the numbers below i with a property, found one by one.
 module _ (P : ℕ → Type 0) where
@@ -66,22 +68,12 @@ of-members set (suc n) a m = go (is-set set n) m (of-members set n a)
     go (inl s) m rest = elim (contains-cons _ a (members set n) m) [ inl e ↦ subst (λ (b : AttrId). IsBitSet set b.0) e s | inr later ↦ rest later ]
     go (inr s) m rest = rest m
 
-pub get-below : {X : Type 0} (xs : List X) (k : ℕ) → k < length xs → (x : X) × (slice_get xs k ≡ Some x)
-get-below [] k h = absurd (omega arith)
-get-below (x ∷ xs) zero h = (x, refl)
-get-below (x ∷ xs) (suc k) h = get-below xs k (omega arith)
-
 -- what stands at a place of a list with one more item
 pub pushed-get : {X : Type 0} (xs : List X) (y : X) (j : ℕ) (z : X) → slice_get (xs ++ (y ∷ [])) j ≡ Some z → (slice_get xs j ≡ Some z) ⊎ ((j ≡ length xs) × (y ≡ z))
 pushed-get [] y zero z e = inr (refl, held e)
 pushed-get [] y (suc j) z e = absurd (none-some _ e)
 pushed-get (x ∷ xs) y zero z e = inl e
 pushed-get (x ∷ xs) y (suc j) z e = elim (pushed-get xs y j z e) [ inl old ↦ inl old | inr new ↦ let d = new.0 in inr ((omega arith), new.1) ]
-
-pub below-length : {X : Type 0} (xs : List X) (k : ℕ) (x : X) → slice_get xs k ≡ Some x → k < length xs
-below-length [] k x e = absurd (none-some _ e)
-below-length (y ∷ xs) zero x e = omega arith
-below-length (y ∷ xs) (suc k) x e = let p = below-length xs k x e in omega arith
 
 module _ (symbols : List FlatSymbol) where
   pub attribute-get : (x : SymId) (a : AttrId) → attribute_at symbols x a ≡ slice_get (attrs_of symbols x) a.0

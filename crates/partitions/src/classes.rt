@@ -14,7 +14,8 @@ use std::alloc::{AllocError, Global};
 
 /// The visit that a pair of classes makes.
 fn visit_of(alloc: Global, levels: Levels) -> Result<VisitClass, AllocError>
-    ensures { IfOk result (λ visit. (symbols : Sequence Symbol) (rules : Sequence Rule) (x : SymbolId) (j : ℕ) → AreLevels symbols rules x j levels
+    ensures { IfOk result (λ visit. (symbols : Sequence Symbol) (rules : Sequence Rule) (x : SymbolId) (j : ℕ)
+        → AreLevels symbols rules x j levels
         → IsClass symbols rules x (2 * j) visit.synthesized
         × IsClass symbols rules x (2 * j + 1) visit.inherited) }
 {
@@ -28,8 +29,10 @@ fn visit_of(alloc: Global, levels: Levels) -> Result<VisitClass, AllocError>
 
 /// The visits that pairs of classes make, the last pair's first.
 pub fn visits_of(alloc: Global, all: &[Levels]) -> Result<List<VisitClass>, AllocError>
-    ensures classes { IfOk result (λ row. (symbols : Sequence Symbol) (rules : Sequence Rule) (x : SymbolId) → AreAllLevels symbols rules x all.now
-        → (k : ℕ) (visit : Visit) → slice_get (reverse row) k ≡ Some visit → IsClass symbols rules x (2 * k) visit.synthesized × IsClass symbols rules x (2 * k + 1) visit.inherited) }
+    ensures classes { IfOk result (λ row. (symbols : Sequence Symbol) (rules : Sequence Rule) (x : SymbolId)
+        → AreAllLevels symbols rules x all.now
+        → (k : ℕ) (visit : Visit) → slice_get (reverse row) k ≡ Some visit → IsClass symbols rules x (2 * k) visit.synthesized
+        × IsClass symbols rules x (2 * k + 1) visit.inherited) }
     ensures count { IfOk result (λ row. length row ≡ length all.now) }
 {
     let mut visits = Vec::new(alloc);

@@ -89,7 +89,8 @@ pub fn symbol_preds(
     requires few { (x : Symbol) → length (rows_at ids.now x.0) ≤ 256 }
     ensures count { IfOk result (λ preds. length preds.items ≡ length vertices.now.occs.items) }
     ensures edges { IfOk result (λ preds. (u v : ℕ) → IsEdge preds.items u v
-        ↔ ((o : Occurrence) × (slice_get vertices.now.occs.items v ≡ Some o) × IsComingAt rule.now ids.now later.now vertices.now.starts.items o u)) }
+        ↔ ((o : Occurrence) × (slice_get vertices.now.occs.items v ≡ Some o)
+        × IsComingAt rule.now ids.now later.now vertices.now.starts.items o u)) }
 {
     let mut preds = Vec::new(alloc);
     for o in &vertices.occs {
@@ -130,7 +131,8 @@ fn add_preds(
     requires goal { to.occ < length starts.now }
     requires vertex { (v : ℕ) → IsNumberOf starts.now to v → v < length preds.old.items }
     ensures count { IfOk result (λ _. length preds.new.items ≡ length preds.old.items) }
-    ensures edges { IfOk result (λ _. (u v : ℕ) → IsEdge preds.new.items u v ↔ (IsEdge preds.old.items u v ⊎ IsAmongAt starts.now from.now to u v)) }
+    ensures edges { IfOk result (λ _. (u v : ℕ) → IsEdge preds.new.items u v ↔ (IsEdge preds.old.items u v
+        ⊎ IsAmongAt starts.now from.now to u v)) }
 {
     let v = number_of(starts, to);
     for o in from {
@@ -151,7 +153,8 @@ fn add_comp(
     requires goal { comp.now.goal.occ < length starts.now }
     requires vertex { (v : ℕ) → IsNumberOf starts.now comp.now.goal v → v < length preds.old.items }
     ensures count { IfOk result (λ _. length preds.new.items ≡ length preds.old.items) }
-    ensures edges { IfOk result (λ _. (u v : ℕ) → IsEdge preds.new.items u v ↔ (IsEdge preds.old.items u v ⊎ IsAmongAt starts.now (dependencies comp.now) comp.now.goal u v)) }
+    ensures edges { IfOk result (λ _. (u v : ℕ) → IsEdge preds.new.items u v ↔ (IsEdge preds.old.items u v
+        ⊎ IsAmongAt starts.now (dependencies comp.now) comp.now.goal u v)) }
 {
     let from = dependencies_of(alloc, comp)?;
     add_preds(preds, starts, &from, comp.goal)?;
@@ -166,11 +169,13 @@ pub fn add_direct(
     comps: &[FlatComp],
 ) -> Result<(), Memory>
     requires small { (k start : ℕ) → slice_get starts.now k ≡ Some start → start ≤ 1024 }
-    requires occurrences { (c : Computation) (o : Occurrence) → Contains comps.now c → Contains (dependencies c) o → o.occ < length starts.now }
+    requires occurrences { (c : Computation) (o : Occurrence) → Contains comps.now c → Contains (dependencies c) o
+        → o.occ < length starts.now }
     requires goals { (c : Computation) → Contains comps.now c → c.goal.occ < length starts.now }
     requires vertices { (c : Computation) (v : ℕ) → Contains comps.now c → IsNumberOf starts.now c.goal v → v < length preds.old.items }
     ensures count { IfOk result (λ _. length preds.new.items ≡ length preds.old.items) }
-    ensures edges { IfOk result (λ _. (u v : ℕ) → IsEdge preds.new.items u v ↔ (IsEdge preds.old.items u v ⊎ IsDirectBy starts.now comps.now u v)) }
+    ensures edges { IfOk result (λ _. (u v : ℕ) → IsEdge preds.new.items u v ↔ (IsEdge preds.old.items u v
+        ⊎ IsDirectBy starts.now comps.now u v)) }
 {
     for comp in comps {
         add_comp(alloc, preds, starts, comp)?;

@@ -12,6 +12,3 @@ mod symbols;
 mod vertices;
 
 pub use parts::{PartFault, partition};
-
-#[cfg(test)]
-mod tests;

@@ -31,7 +31,8 @@ fn extended_graph(
     requires later { AreAllLaterRows flat.now.symbols flat.now.rules later.now }
     requires rule { Contains flat.now.rules rule.now }
     requires vertices { AreNumbered flat.now.symbols rule.now vertices.now.occs.items vertices.now.starts.items }
-    ensures { IfOk result (λ preds. AreExtended flat.now.symbols flat.now.rules rule.now vertices.now.occs.items vertices.now.starts.items preds.items) }
+    ensures { IfOk result
+        (λ preds. AreExtended flat.now.symbols flat.now.rules rule.now vertices.now.occs.items vertices.now.starts.items preds.items) }
 {
     let mut preds = symbol_preds(alloc, rule, &deps.ids, later, vertices)?;
     add_direct(alloc, &mut preds, &vertices.starts, rule.comps.as_slice())?;
@@ -48,7 +49,8 @@ fn direct_graph(
     requires rule { Contains flat.now.rules rule.now }
     requires vertices { AreNumbered flat.now.symbols rule.now vertices.now.occs.items vertices.now.starts.items }
     ensures count { IfOk result (λ preds. length preds.items ≡ length vertices.now.occs.items) }
-    ensures edges { IfOk result (λ preds. (u v : ℕ) (o p : Occurrence) → slice_get vertices.now.occs.items u ≡ Some o → slice_get vertices.now.occs.items v ≡ Some p
+    ensures edges { IfOk result (λ preds. (u v : ℕ) (o p : Occurrence) → slice_get vertices.now.occs.items u ≡ Some o
+        → slice_get vertices.now.occs.items v ≡ Some p
         → IsEdge preds.items u v ↔ DP rule.now o p) }
 {
     let mut preds = bare_graph(alloc, vertices.occs.len())?;
@@ -134,9 +136,11 @@ fn step_at(
     requires ids { AreInducedRows flat.now.symbols flat.now.rules deps.now.ids }
     requires rule { Contains flat.now.rules rule.now }
     requires count { length direct.now ≡ length occs.now }
-    requires direct { (u v : ℕ) (o p : Occurrence) → slice_get occs.now u ≡ Some o → slice_get occs.now v ≡ Some p → IsEdge direct.now u v ↔ DP rule.now o p }
+    requires direct { (u v : ℕ) (o p : Occurrence) → slice_get occs.now u ≡ Some o → slice_get occs.now v ≡ Some p
+        → IsEdge direct.now u v ↔ DP rule.now o p }
     requires edges { AreStepsOf flat.now.symbols flat.now.rules rule.now occs.now cycle.now }
-    requires occurrences { (v : ℕ) (o : Occurrence) → slice_get occs.now v ≡ Some o → (o.occ < 1 + length rule.now.right) × (o.attr.0 < 256) }
+    requires occurrences { (v : ℕ) (o : Occurrence) → slice_get occs.now v ≡ Some o → (o.occ < 1 + length rule.now.right)
+        × (o.attr.0 < 256) }
     ensures { IsStepOf flat.now.symbols flat.now.rules rule.now occs.now cycle.now place result }
 {
     let u = cycle[place];
@@ -161,11 +165,14 @@ fn steps_of(
     requires ids { AreInducedRows flat.now.symbols flat.now.rules deps.now.ids }
     requires rule { Contains flat.now.rules rule.now }
     requires count { length direct.now ≡ length occs.now }
-    requires direct { (u v : ℕ) (o p : Occurrence) → slice_get occs.now u ≡ Some o → slice_get occs.now v ≡ Some p → IsEdge direct.now u v ↔ DP rule.now o p }
+    requires direct { (u v : ℕ) (o p : Occurrence) → slice_get occs.now u ≡ Some o → slice_get occs.now v ≡ Some p
+        → IsEdge direct.now u v ↔ DP rule.now o p }
     requires edges { AreStepsOf flat.now.symbols flat.now.rules rule.now occs.now cycle.now }
-    requires occurrences { (v : ℕ) (o : Occurrence) → slice_get occs.now v ≡ Some o → (o.occ < 1 + length rule.now.right) × (o.attr.0 < 256) }
+    requires occurrences { (v : ℕ) (o : Occurrence) → slice_get occs.now v ≡ Some o → (o.occ < 1 + length rule.now.right)
+        × (o.attr.0 < 256) }
     ensures count { IfOk result (λ steps. length steps ≡ length cycle.now) }
-    ensures steps { IfOk result (λ steps. (j : ℕ) (s : Step) → slice_get steps j ≡ Some s → IsStepOf flat.now.symbols flat.now.rules rule.now occs.now cycle.now j s) }
+    ensures steps { IfOk result (λ steps. (j : ℕ) (s : Step) → slice_get steps j ≡ Some s
+        → IsStepOf flat.now.symbols flat.now.rules rule.now occs.now cycle.now j s) }
 {
     let mut steps = Vec::new(alloc);
     for place in 0..cycle.len() {

@@ -65,7 +65,8 @@ fn enter(search: &mut Search, preds: &[List<usize>], v: usize) -> Result<(), All
     requires search { IsSearch preds.now search.old.marks.items search.old.tried.items search.old.path.items search.old.count }
     requires fresh { slice_get search.old.marks.items v ≡ Some Mark.Fresh }
     requires edge { (j w : ℕ) → suc j ≡ length search.old.path.items → slice_get search.old.path.items j ≡ Some w → IsEdge preds.now v w }
-    ensures search { IfOk result (λ _. IsSearch preds.now search.new.marks.items search.new.tried.items search.new.path.items search.new.count) }
+    ensures search { IfOk result
+        (λ _. IsSearch preds.now search.new.marks.items search.new.tried.items search.new.path.items search.new.count) }
     ensures later { IfOk result (λ _. IsLater search.old.marks.items search.new.marks.items) }
     ensures entered { IfOk result (λ _. slice_get search.new.marks.items v ≡ Some Mark.Entered) }
     ensures nearer { IfOk result (λ _. sum_by weight search.new.marks.items < sum_by weight search.old.marks.items) }
@@ -95,7 +96,8 @@ fn close(search: &mut Search, preds: &[List<usize>], v: usize)
 fn remember(search: &mut Search, preds: &[List<usize>], v: usize, place: usize)
     requires search { IsSearch preds.now search.old.marks.items search.old.tried.items search.old.path.items search.old.count }
     requires vertex { v < length preds.now }
-    requires closed { (j u : ℕ) (row : Sequence ℕ) → slice_get preds.now v ≡ Some row → j < place → slice_get row j ≡ Some u → IsClosed search.old.marks.items u }
+    requires closed { (j u : ℕ) (row : Sequence ℕ) → slice_get preds.now v ≡ Some row → j < place → slice_get row j ≡ Some u
+        → IsClosed search.old.marks.items u }
     ensures search { IsSearch preds.now search.new.marks.items search.new.tried.items search.new.path.items search.new.count }
     ensures marks { search.new.marks.items ≡ search.old.marks.items }
     ensures path { search.new.path.items ≡ search.old.path.items }
@@ -110,7 +112,8 @@ fn step(search: &mut Search, preds: &[List<usize>], v: usize) -> Result<Option<u
     requires search { IsSearch preds.now search.old.marks.items search.old.tried.items search.old.path.items search.old.count }
     requires last { (j : ℕ) → suc j ≡ length search.old.path.items → slice_get search.old.path.items j ≡ Some v }
     requires some { 0 < length search.old.path.items }
-    ensures search { IfOk result (λ _. IsSearch preds.now search.new.marks.items search.new.tried.items search.new.path.items search.new.count) }
+    ensures search { IfOk result
+        (λ _. IsSearch preds.now search.new.marks.items search.new.tried.items search.new.path.items search.new.count) }
     ensures later { IfOk result (λ _. IsLater search.old.marks.items search.new.marks.items) }
     ensures nearer { IfOk result (λ found. IfNone found (sum_by weight search.new.marks.items < sum_by weight search.old.marks.items)) }
     ensures back { IfOk result (λ found. IfSome found (λ u. IsBack preds.now search.new.path.items u)) }
@@ -142,9 +145,11 @@ fn close_from(
     requires search { IsSearch preds.now search.old.marks.items search.old.tried.items search.old.path.items search.old.count }
     requires path { search.old.path.items ≡ [] }
     requires root { root < length preds.now }
-    ensures search { IfOk result (λ _. IsSearch preds.now search.new.marks.items search.new.tried.items search.new.path.items search.new.count) }
+    ensures search { IfOk result
+        (λ _. IsSearch preds.now search.new.marks.items search.new.tried.items search.new.path.items search.new.count) }
     ensures later { IfOk result (λ _. IsLater search.old.marks.items search.new.marks.items) }
-    ensures done { IfOk result (λ found. IfNone found ((search.new.path.items ≡ []) × ¬ (slice_get search.new.marks.items root ≡ Some Mark.Fresh))) }
+    ensures done { IfOk result (λ found. IfNone found ((search.new.path.items ≡ [])
+        × ¬ (slice_get search.new.marks.items root ≡ Some Mark.Fresh))) }
     ensures back { IfOk result (λ found. IfSome found (λ u. IsBack preds.now search.new.path.items u)) }
 {
     if !is_fresh(&search.marks, root) {

@@ -57,7 +57,8 @@ fn partition_symbol(
     rows: &[Bits],
 ) -> Result<SymbolParts, AllocError>
     requires { AreRows flat.now.symbols flat.now.rules x rows.now }
-    ensures visits { IfOk result (λ parts. IsAllPeeled flat.now.symbols flat.now.rules x → AreItsVisits flat.now.symbols flat.now.rules x parts.visits) }
+    ensures visits { IfOk result (λ parts. IsAllPeeled flat.now.symbols flat.now.rules x
+        → AreItsVisits flat.now.symbols flat.now.rules x parts.visits) }
     ensures later { IfOk result (λ parts. AreLaterRows flat.now.symbols flat.now.rules x parts.later) }
     ensures last { IfOk result (λ parts. HasLast flat.now.symbols flat.now.rules x) }
 {

@@ -1,4 +1,4 @@
-use Rattle.std.proofs.Common.{List, sym, subst}
+use Rattle.std.proofs.Common.{List, subst}
 use Rattle.flat_grammar.specs.declared.flat.Occ.{Occ}
 use Rattle.flat_grammar.proofs.BitsLemmas.{iff_then}
 use Rattle.partitions.proofs.EdgesLemmas.{or-same, same-members}

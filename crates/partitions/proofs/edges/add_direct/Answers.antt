@@ -1,5 +1,5 @@
 use Rattle.std.proofs.Common.{arith, ◌≡◌, Some, ap, sym, ◌∙◌}
-use Rattle.std.specs.Prelude.{Contains, slice_get}
+use Rattle.std.specs.Prelude.{slice_get}
 use Rattle.std.proofs.lemmas.Option.{slice_get-get_or}
 use Rattle.flat_grammar.specs.declared.flat.FlatComp.{FlatComp}
 use Rattle.flat_grammar.specs.Rules.{dependencies}

@@ -1,4 +1,4 @@
-use Rattle.std.proofs.Common.{◌≡◌, ◌∙◌, List, [], ℕ, Some, inl, inr, ap, sym, subst, length, length-append, arith}
+use Rattle.std.proofs.Common.{◌≡◌, ◌∙◌, List, ℕ, Some, inl, inr, ap, sym, subst, length, length-append, arith}
 use Rattle.std.specs.Prelude.{slice_get, Contains}
 use Rattle.flat_grammar.proofs.Lists.{contains-nil}
 use Rattle.partitions.proofs.PeelingLemmas.{pushed-get}

@@ -1,4 +1,4 @@
-use Rattle.std.proofs.Common.{◌≡◌, List, length, ap, sym, subst, ◌∙◌, arith, true, false, ℕ, ◌≤◌, ◌<◌}
+use Rattle.std.proofs.Common.{◌≡◌, List, length, ap, sym, subst, arith, ◌≤◌, ◌<◌}
 use Rattle.std.specs.Prelude.{◌*◌, vec_len}
 use Rattle.flat_grammar.specs.Partition.{PeelsAll, AreVisits}
 use Rattle.partitions.specs.declared.peeling.Levels.{Levels}

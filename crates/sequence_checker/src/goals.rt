@@ -30,7 +30,8 @@ impl Goals {
     /// Notes the place of a goal.
     #[tactic(auto, unfolding(crate::specs::Goals::goal_place))]
     fn note(&mut self, goal: Occ, place: usize) -> Result<(), Memory>
-        ensures { OnOk result ((o : Occurrence) → goal_place self.new o ≡ (if is_same_occ goal o then Some place else goal_place self.old o)) }
+        ensures { OnOk result ((o : Occurrence)
+            → goal_place self.new o ≡ (if is_same_occ goal o then Some place else goal_place self.old o)) }
     {
         self.places.insert((goal.occ, goal.attr.0), place)?;
         Ok(())

@@ -48,7 +48,8 @@ impl Progress {
     ) -> Result<Option<u32>, Memory>
         requires rule { IsRule symbols.now rule.now }
         requires goals { IsIndexOf rule.now.comps goals.now }
-        ensures { IfOk result (λ fault. (visits : List (List Class)) → JudgesItem symbols.now visits rule.now self.now (Eval goal) fault) }
+        ensures { IfOk result (λ fault. (visits : List (List Class))
+            → JudgesItem symbols.now visits rule.now self.now (Eval goal) fault) }
     {
         if !is_attribute(symbols, rule, goal) {
             return Ok(Some(IN_RANGE));
@@ -173,7 +174,8 @@ impl Progress {
         rule: &FlatRule,
     ) -> bool
         requires { length rule.now.right < 2 ^ 16 }
-        ensures { IsTrue result ↔ ((k : ℕ) (s : SymbolId) → slice_get rule.now.right k ≡ Some s → IsTrue (all_visited symbols.now visits.now self.now (suc k) s)) }
+        ensures { IsTrue result ↔ ((k : ℕ) (s : SymbolId) → slice_get rule.now.right k ≡ Some s
+            → IsTrue (all_visited symbols.now visits.now self.now (suc k) s)) }
     {
         for (k, symbol) in rule.right.as_slice().iter().enumerate() {
             if !self.is_visited(symbols, visits, k as u16 + 1, *symbol) {

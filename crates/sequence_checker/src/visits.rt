@@ -26,7 +26,8 @@ pub fn class_at<'a>(
     occ: u16,
     visit: usize,
 ) -> Option<&'a VisitClass>
-    ensures { MatchOption result (class_of visits.now rule.now occ visit ≡ None) (λ class. class_of visits.now rule.now occ visit ≡ Some class.now) }
+    ensures { MatchOption result (class_of visits.now rule.now occ visit ≡ None)
+        (λ class. class_of visits.now rule.now occ visit ≡ Some class.now) }
 {
     if visit == 0 {
         return None;

@@ -1,7 +1,7 @@
 -- A symbol has no more visits than attributes of both kinds, and each goal has its place in the sets.
-use Rattle.std.specs.Prelude.{Contains, slice_get, slice_index, unwrap_or, option_and_then, is_some, IsSome, IsTrue, IsFalse, flat_map, map, ◌*◌, ◌==◌}
+use Rattle.std.specs.Prelude.{Contains, slice_get, unwrap_or, option_and_then, IsSome, flat_map, map, ◌*◌, ◌==◌}
 use Rattle.std.specs.List.{list_any, IsDistinct, AllByRecursion}
-use Rattle.std.proofs.Common.{◌≡◌, ℕ, zero, suc, ◌<◌, ◌≤◌, ◌+◌, ◌⊎◌, inl, inr, List, [], ◌∷◌, ◌++◌, length, Option, Some, None, Bool, true, false, true≢false, refl, arith, ap, sym, subst, ◌∙◌, length-append}
+use Rattle.std.proofs.Common.{◌≡◌, ℕ, zero, suc, ◌<◌, ◌≤◌, ◌+◌, inl, inr, List, [], ◌∷◌, length, Option, Some, None, true, false, true≢false, refl, arith, ap, sym, subst, length-append}
 use Rattle.std.proofs.lemmas.Bool.{cases_lt, or_cases, false_from_ne_true, eqb-true, cases_Bool}
 use Rattle.std.proofs.lemmas.Option.{slice_get_within}
 use Rattle.std.proofs.lemmas.Map.Steps.{length-le_from_distinct_below}
@@ -9,7 +9,6 @@ use Rattle.lido_base.specs.declared.ids.SymId.{SymId}
 use Rattle.lido_base.specs.declared.ids.AttrId.{AttrId}
 use Rattle.lido_base.specs.declared.kinds.Kind.{Kind}
 use Rattle.lido_base.specs.declared.kinds.Kind.TheVariants.{Synthesized, Inherited}
-use Rattle.flat_grammar.specs.declared.flat.Occ.{Occ}
 use Rattle.flat_grammar.specs.declared.flat.FlatSymbol.{FlatSymbol}
 use Rattle.flat_grammar.specs.declared.flat.FlatRule.{FlatRule}
 use Rattle.flat_grammar.specs.declared.flat.Shape.{Shape}
@@ -17,10 +16,9 @@ use Rattle.flat_grammar.specs.declared.plan.VisitClass.{VisitClass}
 use Rattle.flat_grammar.specs.Rules.{symbol_at, symbols_of, attribute_at}
 use Rattle.flat_grammar.specs.WellFormed.{IsWellFormed, is_nonterminal}
 use Rattle.flat_grammar.specs.Partition.{IsPeeled, PeelsAll, IsClass, AreVisits, AreAllVisits}
-use Rattle.flat_grammar.specs.SoundPlan.{of_kind, goals_of}
+use Rattle.flat_grammar.specs.SoundPlan.{of_kind}
 use Rattle.lido_base.proofs.Lists.{map-contains}
 use Rattle.flat_grammar.proofs.Lists.{contains-nil, contains-first, contains-later}
-use Rattle.flat_grammar.proofs.PartitionLemmas.{IsPeeled-grows}
 use Rattle.flat_grammar.proofs.PeelingLemmas.{last-pair}
 use Rattle.visit_sequences.specs.declared.goals.Goal.{Goal}
 use Rattle.visit_sequences.specs.Steps.{AreGoals, AreWithin, visits_there}

@@ -34,7 +34,8 @@ impl Progress {
     /// The least free goal of the occurrence that is not evaluated.
     fn least_at(&self, queue: &Queue, occ: u16) -> Option<Occ>
         ensures { MatchOption result ((o : Occurrence) → o.occ ≡ occ → ¬ IsLeft self.now queue.now o)
-            (λ o. (o.occ ≡ occ) × IsLeft self.now queue.now o × ((p : Occurrence) → p.occ ≡ occ → IsLeft self.now queue.now p → IsAtMost o p)) }
+            (λ o. (o.occ ≡ occ) × IsLeft self.now queue.now o × ((p : Occurrence) → p.occ ≡ occ → IsLeft self.now queue.now p
+            → IsAtMost o p)) }
     {
         let free = queue
             .free
@@ -172,7 +173,8 @@ impl Progress {
         requires stops { Stops visits.now rule.now self.now goals.now rest.old }
         ensures rest { IsRest visits.now rule.now self.now goals.now rest.new }
         ensures children { rest.new.children ≡ rest.old.children }
-        ensures owed { MatchOption result (Owes visits.now rule.now self.now goals.now → IsNoChild rule.now (IsReadyAt visits.now rule.now self.now))
+        ensures owed { MatchOption result (Owes visits.now rule.now self.now goals.now
+            → IsNoChild rule.now (IsReadyAt visits.now rule.now self.now))
             (λ k. Owes visits.now rule.now self.now goals.now × IsLeastChild rule.now (IsReadyAt visits.now rule.now self.now) k) }
     {
         if !self.owes(visits, rule, goals, rest.goals) {
@@ -186,8 +188,10 @@ impl Progress {
         requires few { length rule.now.right < 2 ^ 16 }
         requires over { AreOver visits.now rule.now self.now over }
         requires stops { over < length rule.now.right → IsNextAt visits.now rule.now self.now (over + 1) }
-        ensures { MatchOption result (self.now.segment ≡ length (visits_there visits.now rule.now 0) → IsNoChild rule.now (IsNextAt visits.now rule.now self.now))
-            (λ k. (self.now.segment ≡ length (visits_there visits.now rule.now 0)) × IsLeastChild rule.now (IsNextAt visits.now rule.now self.now) k) }
+        ensures { MatchOption result (self.now.segment ≡ length (visits_there visits.now rule.now 0)
+            → IsNoChild rule.now (IsNextAt visits.now rule.now self.now))
+            (λ k. (self.now.segment ≡ length (visits_there visits.now rule.now 0))
+            × IsLeastChild rule.now (IsNextAt visits.now rule.now self.now) k) }
     {
         if self.segment != visits_at(visits, rule, 0).len() {
             return None;

@@ -15,6 +15,7 @@ ghost use Rattle.flat_grammar.specs.WellFormed.{IsWellFormed};
 /// Where no rule has a cycle and the visits are those of the partition, the constructed sequences are a sound plan.
 pub fn constructed_plan_is_sound()
     ensures { (symbols : List FlatSymbol) (rules : List FlatRule) (shapes : List Shape) (root : Symbol) (visits : List (List VisitClass)) (seqs : List (List PlanItem))
-        → IsWellFormed symbols rules shapes root → IsOrderedGrammar symbols rules → AreAllVisits symbols rules visits → AreConstructed symbols rules visits seqs
+        → IsWellFormed symbols rules shapes root → IsOrderedGrammar symbols rules → AreAllVisits symbols rules visits
+        → AreConstructed symbols rules visits seqs
         → IsSound symbols rules visits seqs }
 {}

@@ -31,7 +31,8 @@ impl Listed {
 
     /// The least one.
     pub fn first(&self) -> Option<u16>
-        ensures { MatchOption result ((k : ℕ) → ¬ IsListed self.now k) (λ k. IsListed self.now k × ((j : ℕ) → IsListed self.now j → k ≤ j)) }
+        ensures { MatchOption result ((k : ℕ) → ¬ IsListed self.now k) (λ k. IsListed self.now k × ((j : ℕ) → IsListed self.now j
+            → k ≤ j)) }
     {
         self.occurrences.first().copied()
     }

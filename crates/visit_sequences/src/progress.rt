@@ -170,7 +170,8 @@ impl Progress {
     /// A goal is evaluated.
     fn evaluate(&mut self, goal: Occ)
         ensures items { self.new.items ≡ self.old.items }
-        ensures each { (length self.new.evaluated.items ≡ length self.old.evaluated.items) × (length self.new.at_hand.items ≡ length self.old.at_hand.items) }
+        ensures each { (length self.new.evaluated.items ≡ length self.old.evaluated.items)
+            × (length self.new.at_hand.items ≡ length self.old.at_hand.items) }
         ensures rest { (self.new.made ≡ self.old.made) × (self.new.segment ≡ self.old.segment) }
         ensures evaluated { Evaluates self.old.evaluated.items self.new.evaluated.items goal }
         ensures at_hand { Evaluates self.old.at_hand.items self.new.at_hand.items goal }
@@ -183,7 +184,8 @@ impl Progress {
     /// Notes how many visits of a child were made.
     fn note(&mut self, occ: u16, visit: usize)
         ensures made { self.new.made.items ≡ slice_set self.old.made.items occ visit }
-        ensures same { (self.new.items ≡ self.old.items) × (self.new.evaluated ≡ self.old.evaluated) × (self.new.at_hand ≡ self.old.at_hand) × (self.new.segment ≡ self.old.segment) }
+        ensures same { (self.new.items ≡ self.old.items) × (self.new.evaluated ≡ self.old.evaluated)
+            × (self.new.at_hand ≡ self.old.at_hand) × (self.new.segment ≡ self.old.segment) }
     {
         if let Some(made) = self.made.get_mut(occ as usize) {
             *made = visit;
@@ -192,10 +194,12 @@ impl Progress {
 
     /// A visit of a child gives what it synthesizes.
     fn visit(&mut self, visits: &[List<VisitClass>], rule: &FlatRule, occ: u16, visit: u16)
-        ensures same { (self.new.items ≡ self.old.items) × (self.new.evaluated ≡ self.old.evaluated) × (self.new.segment ≡ self.old.segment) }
+        ensures same { (self.new.items ≡ self.old.items) × (self.new.evaluated ≡ self.old.evaluated)
+            × (self.new.segment ≡ self.old.segment) }
         ensures each { length self.new.at_hand.items ≡ length self.old.at_hand.items }
         ensures made { self.new.made.items ≡ slice_set self.old.made.items occ visit }
-        ensures at_hand { Passes (λ c. c.synthesized) (visits_there visits.now rule.now occ) visit self.old.at_hand.items self.new.at_hand.items occ }
+        ensures at_hand { Passes
+            (λ c. c.synthesized) (visits_there visits.now rule.now occ) visit self.old.at_hand.items self.new.at_hand.items occ }
     {
         self.note(occ, visit as usize);
         let more = synthesized(visits_at(visits, rule, occ), visit as usize);
@@ -207,7 +211,8 @@ impl Progress {
         ensures same { (self.new.items ≡ self.old.items) × (self.new.evaluated ≡ self.old.evaluated) × (self.new.made ≡ self.old.made) }
         ensures each { length self.new.at_hand.items ≡ length self.old.at_hand.items }
         ensures segment { self.new.segment ≡ visit + 1 }
-        ensures at_hand { Passes (λ c. c.inherited) (visits_there visits.now rule.now 0) (visit + 1) self.old.at_hand.items self.new.at_hand.items 0 }
+        ensures at_hand { Passes
+            (λ c. c.inherited) (visits_there visits.now rule.now 0) (visit + 1) self.old.at_hand.items self.new.at_hand.items 0 }
     {
         self.segment = visit as usize + 1;
         let more = inherited(visits_at(visits, rule, 0), visit as usize + 1);

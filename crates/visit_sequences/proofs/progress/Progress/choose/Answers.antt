@@ -1,5 +1,5 @@
 use Rattle.std.specs.Prelude.{slice_index, length}
-use Rattle.std.proofs.Common.{◌≡◌, suc, subst, sym, refl, arith}
+use Rattle.std.proofs.Common.{◌≡◌, subst, sym, refl, arith}
 use Rattle.std.proofs.lemmas.Option.{slice_get_within}
 use Rattle.flat_grammar.specs.Construction.{IsChosen}
 use Rattle.visit_sequences.specs.Steps.{visits_there, IsLeastChild, IsLeastOpen, IsNoChild, IsNextAt, IsReadyAt, Owes}

@@ -39,8 +39,18 @@ fn long_rows(alloc: Global, more: u16) -> Result<List<List<VisitClass>>, AllocEr
     let idle = MOST_VISITS - 2;
     let mut of_s = List::new(alloc);
     of_s.push(visit(alloc, &[], &[0, 1])?)?;
-    let of_a = many_visits(alloc, visit(alloc, &[0], &[])?, visit(alloc, &[], &[])?, idle)?;
-    let mut of_b = many_visits(alloc, visit(alloc, &[], &[])?, visit(alloc, &[], &[0])?, idle)?;
+    let of_a = many_visits(
+        alloc,
+        visit(alloc, &[0], &[])?,
+        visit(alloc, &[], &[])?,
+        idle,
+    )?;
+    let mut of_b = many_visits(
+        alloc,
+        visit(alloc, &[], &[])?,
+        visit(alloc, &[], &[0])?,
+        idle,
+    )?;
     for _ in 0..more {
         of_b.push(visit(alloc, &[], &[])?)?;
     }

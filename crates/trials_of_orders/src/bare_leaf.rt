@@ -2,10 +2,12 @@
 ghost use Rattle.std.specs.Prelude.{◌≡◌, IfOk};
 ghost use Rattle.trials_of_orders.specs.BareLeaf.{symbols as two_symbols, rules as two_rules, shapes as two_shapes};
 
-use trials_of_grammar::parts::{attribute, computation, occurrence, one, plain_shape, rule, symbol, two};
 use flat_grammar::{Flat, FlatExpr, FlatRule, FlatSymbol, Shape};
 use lido_base::{Kind, List, Memory, SymId, Value, ValueType};
 use std::alloc::Global;
+use trials_of_grammar::parts::{
+    attribute, computation, occurrence, one, plain_shape, rule, symbol, two,
+};
 
 /// Top with $out, and Leaf.
 fn symbols(alloc: Global) -> Result<List<FlatSymbol>, Memory>

@@ -2,12 +2,12 @@
 ghost use Rattle.std.specs.Prelude.{◌≡◌, IfOk};
 ghost use Rattle.trials_of_orders.specs.TwoVisits.{symbols as three_symbols, rules as two_rules, shapes as two_shapes, S_rule, X_rule};
 
-use trials_of_grammar::parts::{
-    attribute, computation, occurrence, one, plain_shape, rule, symbol, three, two,
-};
 use flat_grammar::{Flat, FlatExpr, FlatRule, FlatSymbol, Shape};
 use lido_base::{Kind, List, Memory, SymId, Value, ValueType};
 use std::alloc::Global;
+use trials_of_grammar::parts::{
+    attribute, computation, occurrence, one, plain_shape, rule, symbol, three, two,
+};
 
 /// S with r; X with i, s, j and t; the terminal Num.
 fn symbols(alloc: Global) -> Result<List<FlatSymbol>, Memory>

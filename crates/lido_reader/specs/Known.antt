@@ -1,5 +1,5 @@
--- What stands in a specification: its ids are those of a table of texts, and lists that have an element at least aren't empty.
-use Rattle.std.specs.Prelude.{◌≡◌, ℕ, ◌<◌, true, List, length, Option, Some, None, All}
+-- What stands in a specification: what holds of each of its names and texts, and which lists have an element at least.
+use Rattle.std.specs.Prelude.{◌≡◌, ℕ, ◌<◌, true, List, length, Option, Some, None, All, Contains}
 use Rattle.lido_base.specs.declared.ids.StrId.{StrId}
 use Rattle.lido_lexer.specs.declared.token.Token.{Token}
 use Rattle.lido_lexer.specs.declared.token.TokenKind.{TokenKind}
@@ -28,35 +28,29 @@ pub record OneOrMore {X : Type 0} (P : X → Type 0) (xs : List X) : Type 0 wher
   pub some : 0 < length xs
   pub each : All P xs
 
-module _ (count : ℕ) where
-  -- the id of a text of a table that has so many
-  abbrev pub IsKnown : StrId → Type 0
-  IsKnown id = id.0 < count
-
-  abbrev pub KnownKind : TokenKind → Type 0
-  KnownKind (kind.Word id) = IsKnown id
-  KnownKind (kind.Str id) = IsKnown id
-  KnownKind (kind.Literal id) = IsKnown id
-  KnownKind _ = Unit {0}
+-- This holds of the names that are words of the text, of the functions' names in calls, and of the ids of other texts and of rules.
+module _ (Word Function : Name → Type 0) (Text : StrId → Type 0) where
+  abbrev pub KnownKind : ℕ → TokenKind → Type 0
+  KnownKind at (kind.Word id) = Word (record { at = at; id = id })
+  KnownKind at (kind.Str id) = Text id
+  KnownKind at (kind.Literal id) = Text id
+  KnownKind at _ = Unit {0}
 
   abbrev pub KnownToken : Token → Type 0
-  KnownToken t = KnownKind t.what
-
-  abbrev pub KnownName : Name → Type 0
-  KnownName n = IsKnown n.id
+  KnownToken t = KnownKind t.from t.what
 
   abbrev pub KnownPlace : Place → Type 0
-  KnownPlace (place.Named n i) = KnownName n
+  KnownPlace (place.Named n i) = Word n
   KnownPlace _ = Unit {0}
 
   pub record KnownPair (p : Pair) : Type 0 where
-    pub symbol : KnownName p.sym
-    pub attribute : KnownName p.attr
+    pub symbol : Word p.sym
+    pub attribute : Word p.attr
 
   pub record KnownFunctions (w : With) : Type 0 where
-    pub comb : KnownName w.comb
-    pub single : KnownName w.single
-    pub null : KnownName w.null
+    pub comb : Word w.comb
+    pub single : Word w.single
+    pub null : Word w.null
 
   abbrev pub KnownWith : Option With → Type 0
   KnownWith None = Unit {0}
@@ -64,25 +58,25 @@ module _ (count : ℕ) where
 
   pub record KnownConstituents (k : Cons) : Type 0 where
     pub sources : OneOrMore KnownPair k.pairs
-    pub shield : All KnownName k.shield
+    pub shield : All Word k.shield
     pub with_functions : KnownWith k.with
 
   -- what a part of an expression has by itself
   abbrev pub KnownPart : Expr → Type 0
-  KnownPart (Str at id) = IsKnown id
-  KnownPart (Terminal n i) = KnownName n
-  KnownPart (Read at p a) = KnownPlace p × KnownName a
+  KnownPart (Str at id) = Text id
+  KnownPart (Terminal n i) = Word n
+  KnownPart (Read at p a) = KnownPlace p × Word a
   KnownPart (Including at pairs) = OneOrMore KnownPair pairs
   KnownPart (Constituents k) = KnownConstituents k
-  KnownPart (Call' f shape args) = KnownName f
+  KnownPart (Call' f shape args) = Function f
   KnownPart _ = Unit {0}
 
   abbrev pub KnownExpr : Expr → Type 0
   KnownExpr e = All KnownPart (parts e)
 
   abbrev pub KnownTarget : Target → Type 0
-  KnownTarget (target.Attr p a) = KnownPlace p × KnownName a
-  KnownTarget (target.Start c) = KnownName c
+  KnownTarget (target.Attr p a) = KnownPlace p × Word a
+  KnownTarget (target.Start c) = Word c
   KnownTarget _ = Unit {0}
 
   pub record KnownComp (c : Comp) : Type 0 where
@@ -90,25 +84,25 @@ module _ (count : ℕ) where
     pub expressions : All KnownExpr (expressions_of c)
 
   abbrev pub KnownDecl : Decl → Type 0
-  KnownDecl d = KnownName d.attr
+  KnownDecl d = Word d.attr
 
   abbrev pub KnownTyped : Typed1 → Type 0
-  KnownTyped t = KnownName t.name
+  KnownTyped t = Word t.name
 
   abbrev pub KnownElement : Element → Type 0
-  KnownElement (element.Symbol n) = KnownName n
-  KnownElement (element.Literal id) = IsKnown id
+  KnownElement (element.Symbol n) = Word n
+  KnownElement (element.Literal id) = Text id
 
   pub record KnownRule (r : RuleItem) : Type 0 where
-    pub called : IsKnown r.name
-    pub left : KnownName r.left
+    pub called : Text r.name
+    pub left : Word r.left
     pub right : All KnownElement r.right
     pub some : r.list ≡ true → 0 < length r.right
     pub body : All KnownComp r.body
 
   pub record KnownSymbol (s : SymbolItem) : Type 0 where
-    pub about : OneOrMore KnownName s.names
-    pub inherits : All KnownName s.inherits
+    pub about : OneOrMore Word s.names
+    pub inherits : All Word s.inherits
     pub decls : All KnownDecl s.decls
     pub body : All KnownComp s.body
 
@@ -118,3 +112,25 @@ module _ (count : ℕ) where
     pub attrs : All KnownDecl spec.attrs
     pub terms : All KnownTyped spec.terms
     pub chains : All KnownTyped spec.chains
+
+-- the name is a word of the tokens, at its place
+abbrev pub IsWordOf : List Token → Name → Type 0
+IsWordOf tokens n = (t : Token) × Contains tokens t × (n.at ≡ t.from) × (t.what ≡ kind.Word n.id)
+
+-- the id of a text of this table
+abbrev pub IsIdOf : List (List ℕ) → StrId → Type 0
+IsIdOf texts id = id.0 < length texts
+
+abbrev pub IsNameOf : List (List ℕ) → Name → Type 0
+IsNameOf texts n = IsIdOf texts n.id
+
+-- All ids are those of the table.
+abbrev pub HasKnownIds : List (List ℕ) → Spec → Type 0
+HasKnownIds texts = KnownSpec (IsNameOf texts) (IsNameOf texts) (IsIdOf texts)
+
+abbrev pub HasKnownId : List (List ℕ) → Token → Type 0
+HasKnownId texts = KnownToken (IsNameOf texts) (IsNameOf texts) (IsIdOf texts)
+
+-- All names but those of functions and rules are words of the tokens.
+abbrev pub HasWordsOf : List Token → Spec → Type 0
+HasWordsOf tokens = KnownSpec (IsWordOf tokens) (λ (function : Name). Unit {0}) (λ (text : StrId). Unit {0})

@@ -1,12 +1,13 @@
 //! Laws about the definitions. Each function does nothing; what is proved is its contract.
-ghost use Rattle.std.specs.Prelude.{◌≡◌, List, ℕ, length, All, AllPairs};
+ghost use Rattle.std.specs.Prelude.{◌≡◌, List, ℕ, All, AllPairs};
 ghost use Rattle.lido_base.specs.Texts.{IsDistinctTexts};
 ghost use Rattle.lido_lexer.specs.declared.token.Token.{Token};
 ghost use Rattle.lido_computations.specs.Functions.{HasAll};
 ghost use Rattle.lido_reader.specs.Added.{rule_names};
-ghost use Rattle.lido_reader.specs.Known.{KnownSpec, KnownToken};
+ghost use Rattle.lido_reader.specs.Known.{HasKnownId, HasKnownIds, HasWordsOf, IsWordOf};
 ghost use Rattle.lido_reader.specs.Numbers.{AreApart, IsEarlier, all_numbers};
 ghost use Rattle.lido_reader.specs.Specification.{IsSpecOf};
+ghost use Rattle.lido_syntax.specs.declared.spec.Name.{Name};
 ghost use Rattle.lido_syntax.specs.declared.spec.Spec.{Spec};
 
 /// Tokens are one specification at most, if no text stands twice in the table.
@@ -26,5 +27,16 @@ pub fn numbers_tell_places()
 /// specification; an item is about at least one symbol, a remote list has a pair and a LISTOF an element.
 pub fn ids_are_known()
     ensures { (texts : List (List ℕ)) (tokens : List Token) (spec : Spec)
-        → All (KnownToken (length texts)) tokens → HasAll (rule_names 1 tokens) texts → IsSpecOf texts tokens spec → KnownSpec (length texts) spec }
+        → All (HasKnownId texts) tokens → HasAll (rule_names 1 tokens) texts → IsSpecOf texts tokens spec → HasKnownIds texts spec }
+{}
+
+/// All names of a specification but those of functions and rules are words of its tokens, at their places.
+pub fn names_are_words()
+    ensures { (texts : List (List ℕ)) (tokens : List Token) (spec : Spec) → IsSpecOf texts tokens spec → HasWordsOf tokens spec }
+{}
+
+/// Where each token begins behind those before it, words at one place are one name: different names have different places.
+pub fn places_tell_names()
+    ensures { (tokens : List Token) (one other : Name)
+        → AllPairs IsEarlier tokens → IsWordOf tokens one → IsWordOf tokens other → one.at ≡ other.at → one ≡ other }
 {}

@@ -1,7 +1,7 @@
 //! A small table of values.
 use lido_base::{Contents, Desc, Origin, StrId};
 
-/// One value of each kind, by the keys 0 to 5.
+/// One value of each kind, by the keys 0 to 5. No region stores the last.
 #[derive(Clone, Copy)]
 pub struct Sample {
     pub number: i64,
@@ -16,6 +16,8 @@ impl Contents for Sample {
     ghost use Rattle.lido_base.specs.declared.value.Value.TheVariants as value;
 
     ghost contents = { λ s. value.Int s.number ∷ value.Str s.text ∷ value.Text s.built ∷ value.Bad s.fault ∷ value.Bool s.truth ∷ value.Void ∷ [] };
+
+    ghost owners = { λ _. 1 ∷ 2 ∷ 1 ∷ 3 ∷ 2 ∷ 0 ∷ [] };
 
     fn keys(&self) -> u32 {
         // a number that is read is known to be in the range of its type

@@ -8,7 +8,7 @@ use lido_lexer::{Keyword, Sign, Token, TokenKind, next};
 use std::alloc::Global;
 
 /// What a token may be in a pattern. A place is that of the token's first byte.
-#[derive(Clone, Copy, Debug)]
+#[derive(Clone, Copy)]
 pub enum Mark {
     /// A name that is no keyword, and its place.
     Name(u32, StrId),

@@ -10,7 +10,7 @@ use crate::marks::Mark;
 const MOST_BARE: u32 = 64;
 
 /// How far a text has come. Within a pattern: whether a brace is open, and how many points have no number.
-#[derive(Clone, Copy, Debug)]
+#[derive(Clone, Copy)]
 pub enum State {
     /// No pattern has begun.
     Start,

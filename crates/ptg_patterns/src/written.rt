@@ -2,7 +2,7 @@
 use lido_base::{List, StrId, ValueType};
 
 /// An insertion point: the first byte of its `$`, its number if it has one, and the type that it gives its argument.
-#[derive(Clone, Copy, Debug)]
+#[derive(Clone, Copy)]
 pub struct Point {
     pub at: u32,
     pub number: Option<u32>,
@@ -10,21 +10,21 @@ pub struct Point {
 }
 
 /// What an item is: a string, or an insertion point.
-#[derive(Clone, Copy, Debug)]
+#[derive(Clone, Copy)]
 pub enum Content {
     Text(StrId),
     Point(Point),
 }
 
 /// An item of a pattern, and whether it stands in braces.
-#[derive(Clone, Copy, Debug)]
+#[derive(Clone, Copy)]
 pub struct Item {
     pub content: Content,
     pub brace: bool,
 }
 
 /// A pattern: the first byte of its name, the name, and its items.
-#[derive(Debug, Drop)]
+#[derive(Drop)]
 pub struct Written {
     pub at: u32,
     pub name: StrId,

@@ -88,7 +88,8 @@ fn operands<'a>(
     strings: &mut Strings,
 ) -> Result<((Expr, Counts), &'a [Token]), ReadSpecFault>
     requires { level < 6 }
-    ensures reads { ReadsWith (λ e. e) (λ texts. AreOperands texts level (first, counts)) (continues level) strings.new end tokens.now result }
+    ensures reads { ReadsWith (λ e. e) (λ texts. AreOperands texts level (first, counts)) (continues level)
+        strings.new end tokens.now result }
     ensures no_longer { IfOk result (λ x. length x.1.now ≤ length tokens.now) }
     ensures kept { Gains strings.old strings.new }
     ensures same { Keeps strings.old strings.new }
@@ -344,7 +345,8 @@ fn indexed(
     tokens: &[Token],
     end: u32,
 ) -> Result<((Expr, Counts), &[Token]), ReadSpecFault>
-    ensures reads { (texts : Sequence (Sequence ℕ)) → ReadsSeen (λ e. e) (Then IsIndex (λ i. IsIndexed texts counts word i)) follows end tokens.now result }
+    ensures reads { (texts : Sequence (Sequence ℕ)) → ReadsSeen (λ e. e) (Then IsIndex (λ i. IsIndexed texts counts word i)) follows
+        end tokens.now result }
     ensures no_longer { IfOk result (λ x. length x.1.now ≤ length tokens.now) }
 {
     let (i, rest) = index(tokens, end)?;

@@ -144,7 +144,8 @@ pub(crate) fn unconditional<'a>(
     end: u32,
     strings: &mut Strings,
 ) -> Result<((Comp, u32), &'a [Token]), ReadSpecFault>
-    ensures reads { ReadsWith (λ one. one) (λ texts. IsUnconditional words texts number at) continues_computation strings.new end tokens.now result }
+    ensures reads { ReadsWith (λ one. one) (λ texts. IsUnconditional words texts number at) continues_computation
+        strings.new end tokens.now result }
     ensures shorter { IfOk result (λ x. length x.1.now < length tokens.now) }
     ensures kept { Gains strings.old strings.new }
     ensures same { Keeps strings.old strings.new }
@@ -178,7 +179,8 @@ pub(crate) fn conditional<'a>(
     end: u32,
     strings: &mut Strings,
 ) -> Result<((Comp, u32), &'a [Token]), ReadSpecFault>
-    ensures reads { ReadsWith (λ one. one) (λ texts. IsConditional words texts number at) continues_computation strings.new end tokens.now result }
+    ensures reads { ReadsWith (λ one. one) (λ texts. IsConditional words texts number at) continues_computation
+        strings.new end tokens.now result }
     ensures shorter { IfOk result (λ x. length x.1.now < length tokens.now) }
     ensures kept { Gains strings.old strings.new }
     ensures same { Keeps strings.old strings.new }

@@ -28,7 +28,8 @@ pub enum Owner {
 fn after_message(tokens: &[Token], words: MessageWords) -> Option<(Token, &[Token])>
     ensures { MatchOption result
         ((t o : Read) (us vs : Sequence Read) → Sees (TokenKind.Word words.message) tokens.now t us → Signs Sign.ParenOpen us o vs → ⊥)
-        (λ x. Sees (TokenKind.Word words.message) tokens.now x.0 x.1.now × (o : Read) × (vs : Sequence Read) × Signs Sign.ParenOpen x.1.now o vs) }
+        (λ x. Sees (TokenKind.Word words.message) tokens.now x.0 x.1.now
+        × (o : Read) × (vs : Sequence Read) × Signs Sign.ParenOpen x.1.now o vs) }
 {
     let (word, rest) = after_token(tokens, TokenKind::Word(words.message))?;
     let (_opening, _) = after_sign(rest, Sign::ParenOpen)?;
@@ -44,7 +45,8 @@ fn rule_computation<'a>(
     words: MessageWords,
     number: u32,
 ) -> Result<((Comp, u32), &'a [Token]), ReadSpecFault>
-    ensures reads { ReadsWith (λ one. one) (λ texts. IsRuleComputation words texts number) continues_computation strings.new end tokens.now result }
+    ensures reads { ReadsWith (λ one. one) (λ texts. IsRuleComputation words texts number) continues_computation
+        strings.new end tokens.now result }
     ensures shorter { IfOk result (λ x. length x.1.now < length tokens.now) }
     ensures kept { Gains strings.old strings.new }
     ensures same { Keeps strings.old strings.new }
@@ -69,7 +71,8 @@ fn symbol_computation<'a>(
     words: MessageWords,
     number: u32,
 ) -> Result<((Comp, u32), &'a [Token]), ReadSpecFault>
-    ensures reads { ReadsWith (λ one. one) (λ texts. IsSymbolComputation words texts number) continues_computation strings.new end tokens.now result }
+    ensures reads { ReadsWith (λ one. one) (λ texts. IsSymbolComputation words texts number) continues_computation
+        strings.new end tokens.now result }
     ensures shorter { IfOk result (λ x. length x.1.now < length tokens.now) }
     ensures kept { Gains strings.old strings.new }
     ensures same { Keeps strings.old strings.new }
@@ -95,7 +98,8 @@ pub fn computation_in<'a>(
     owner: Owner,
     number: u32,
 ) -> Result<((Comp, u32), &'a [Token]), ReadSpecFault>
-    ensures reads { ReadsWith (λ one. one) (λ texts. IsComputationIn words texts owner number) continues_computation strings.new end tokens.now result }
+    ensures reads { ReadsWith (λ one. one) (λ texts. IsComputationIn words texts owner number) continues_computation
+        strings.new end tokens.now result }
     ensures shorter { IfOk result (λ x. length x.1.now < length tokens.now) }
     ensures kept { Gains strings.old strings.new }
     ensures same { Keeps strings.old strings.new }

@@ -46,7 +46,8 @@ fn computations<'a>(
     number: u32,
 ) -> Result<(Numbered, &'a [Token]), ReadSpecFault>
     ensures reads { (texts : List (List ℕ)) → IsLater strings.new texts
-        → ReadsSeen (λ body. (body.all.items, body.next)) (Repeats (IsFurtherComputation (IsComputationIn words texts owner)) ([], number)) is_not_end end tokens.now result }
+        → ReadsSeen (λ body. (body.all.items, body.next)) (Repeats (IsFurtherComputation (IsComputationIn words texts owner)) ([], number))
+        is_not_end end tokens.now result }
     ensures kept { Gains strings.old strings.new }
     ensures same { Keeps strings.old strings.new }
     ensures few { length strings.new ≤ length strings.old + length tokens.now }
@@ -79,7 +80,8 @@ fn computed<'a>(
     number: u32,
 ) -> Result<(Numbered, &'a [Token]), ReadSpecFault>
     ensures reads { (texts : List (List ℕ)) → IsLater strings.new texts
-        → ReadsSeen (λ body. (body.all.items, body.next)) (AreComputations (IsComputationIn words texts owner) number) is_not_end end tokens.now result }
+        → ReadsSeen (λ body. (body.all.items, body.next)) (AreComputations (IsComputationIn words texts owner) number)
+        is_not_end end tokens.now result }
     ensures kept { Gains strings.old strings.new }
     ensures same { Keeps strings.old strings.new }
     ensures few { length strings.new ≤ length strings.old + length tokens.now }
@@ -110,7 +112,8 @@ pub(crate) fn body<'a>(
     number: u32,
 ) -> Result<(Numbered, &'a [Token]), ReadSpecFault>
     ensures reads { (texts : List (List ℕ)) → IsLater strings.new texts
-        → ReadsSeen (λ body. (body.all.items, body.next)) (IsBody (IsComputationIn words texts owner) number) nothing end tokens.now result }
+        → ReadsSeen (λ body. (body.all.items, body.next)) (IsBody (IsComputationIn words texts owner) number)
+        nothing end tokens.now result }
     ensures kept { Gains strings.old strings.new }
     ensures same { Keeps strings.old strings.new }
     ensures few { length strings.new ≤ length strings.old + length tokens.now }

@@ -181,7 +181,8 @@ fn item<'a>(
     found: Found,
 ) -> Result<(Found, &'a [Token]), ReadSpecFault>
     ensures reads { (texts : List (List ℕ)) → IsLater strings.new texts
-        → ReadsSeen found_in (IsFurtherItem (called_in texts) (IsComputationIn words texts) (found_in found)) nothing end tokens.now result }
+        → ReadsSeen found_in (IsFurtherItem (called_in texts) (IsComputationIn words texts) (found_in found))
+        nothing end tokens.now result }
     ensures kept { Gains strings.old strings.new }
     ensures few { length strings.new ≤ length strings.old + length tokens.now }
     ensures each { IfOk result (λ x. length strings.new + length x.1.now ≤ length strings.old + length tokens.now) }
@@ -213,7 +214,8 @@ pub(crate) fn items<'a>(
     words: MessageWords,
 ) -> Result<(Found, &'a [Token]), ReadSpecFault>
     ensures reads { (texts : List (List ℕ)) → IsLater strings.new texts
-        → ReadsSeen found_in (Repeats (IsFurtherItem (called_in texts) (IsComputationIn words texts)) (no_items, 0)) begins_item end tokens.now result }
+        → ReadsSeen found_in (Repeats (IsFurtherItem (called_in texts) (IsComputationIn words texts)) (no_items, 0))
+        begins_item end tokens.now result }
     ensures kept { Gains strings.old strings.new }
     ensures few { length strings.new ≤ length strings.old + length tokens.now }
     ensures table { IfOk result (λ x. (texts : List (List ℕ)) → IsLater strings.new texts

@@ -44,7 +44,8 @@ pub(crate) fn rule_name<'a>(
     number: u64,
     at: u32,
 ) -> Result<(Name, &'a [Token]), ReadSpecFault>
-    ensures reads { IfOk result (λ x. (texts : List (List ℕ)) → IsLater strings.new texts → Finds (IsRuleName (called_in texts) number at) is_word tokens.now x.0 x.1.now) }
+    ensures reads { IfOk result (λ x. (texts : List (List ℕ)) → IsLater strings.new texts
+        → Finds (IsRuleName (called_in texts) number at) is_word tokens.now x.0 x.1.now) }
     ensures no_longer { IfOk result (λ x. length x.1.now ≤ length tokens.now) }
     ensures kept { Gains strings.old strings.new }
     ensures few { length strings.new ≤ length strings.old + 1 }

@@ -27,12 +27,14 @@ fn read_items<'a>(
     strings: &mut Strings,
 ) -> Result<(Found, &'a [Token]), ReadSpecFault>
     ensures reads { (texts : Sequence (Sequence ℕ)) → IsLater strings.new texts
-        → ReadsSeen found_in (Repeats (IsFurtherItem (called_in texts) (IsComputationIn (words_in texts) texts)) (no_items, 0)) begins_item end tokens.now result }
+        → ReadsSeen found_in (Repeats (IsFurtherItem (called_in texts) (IsComputationIn (words_in texts) texts)) (no_items, 0))
+        begins_item end tokens.now result }
     ensures kept { Gains strings.old strings.new }
     ensures few { length strings.new ≤ length strings.old + length tokens.now + 5 }
     ensures table { IfOk result (λ x. (texts : Sequence (Sequence ℕ)) → IsLater strings.new texts
         → Owes 1 tokens.now strings.old (length x.0.rules.items + 1) x.1.now strings.new) }
-    ensures within { (texts : Sequence (Sequence ℕ)) → IsLater strings.new texts → AddsSome (rule_names 1 tokens.now) strings.old strings.new }
+    ensures within { (texts : Sequence (Sequence ℕ)) → IsLater strings.new texts
+        → AddsSome (rule_names 1 tokens.now) strings.old strings.new }
 {
     let words = message_words(strings)?;
     items(alloc, tokens, end, strings, words)
@@ -53,7 +55,8 @@ pub fn read_spec(
     strings: &mut Strings,
 ) -> Result<Spec, ReadSpecFault>
     // At any texts that are added later, too.
-    ensures reads { (texts : Sequence (Sequence ℕ)) → IsLater strings.new texts → Gives (λ spec. spec) (IsReading texts tokens.now end) ReadSpecFault.Memory result }
+    ensures reads { (texts : Sequence (Sequence ℕ)) → IsLater strings.new texts
+        → Gives (λ spec. spec) (IsReading texts tokens.now end) ReadSpecFault.Memory result }
     ensures kept { Gains strings.old strings.new }
     ensures few { length strings.new ≤ length strings.old + length tokens.now + 5 }
     // Where all known words are texts already (`intern_known_words`), the tokens tell which texts there are later.

@@ -142,7 +142,8 @@ fn computing<'a>(
     number: u32,
 ) -> Result<((SymbolItem, u32), &'a [Token]), ReadSpecFault>
     ensures reads { (texts : Sequence (Sequence ℕ)) → IsLater strings.new texts
-        → ReadsSeen (λ item. item) (IsComputing (IsComputationIn words texts Owner.Symbol) (head.at, head.class) first number) nothing end tokens.now result }
+        → ReadsSeen (λ item. item) (IsComputing (IsComputationIn words texts Owner.Symbol) (head.at, head.class) first number)
+        nothing end tokens.now result }
     ensures kept { Gains strings.old strings.new }
     ensures same { Keeps strings.old strings.new }
     ensures few { length strings.new ≤ length strings.old + length tokens.now }
@@ -183,7 +184,8 @@ fn about<'a>(
     number: u32,
 ) -> Result<((SymbolItem, u32), &'a [Token]), ReadSpecFault>
     ensures reads { (texts : Sequence (Sequence ℕ)) → IsLater strings.new texts
-        → ReadsSeen (λ item. item) (IsAbout (IsComputationIn words texts Owner.Symbol) (head.at, head.class) first number) nothing end tokens.now result }
+        → ReadsSeen (λ item. item) (IsAbout (IsComputationIn words texts Owner.Symbol) (head.at, head.class) first number)
+        nothing end tokens.now result }
     ensures kept { Gains strings.old strings.new }
     ensures same { Keeps strings.old strings.new }
     ensures few { length strings.new ≤ length strings.old + length tokens.now }

@@ -89,7 +89,8 @@ fn next_token<'a>(
     requires within { length left.now ≤ length text.now }
     requires small { length text.now < 2 ^ 32 }
     ensures front { IfOk result (λ x. IsFront left.now (shown_kind strings.new x.0.what) x.1.now) }
-    ensures shown { IfOk result (λ x. shown_in strings.new x.0 ≡ placed (length text.now) left.now (shown_kind strings.new x.0.what) x.1.now) }
+    ensures shown { IfOk result (λ x. shown_in strings.new x.0
+        ≡ placed (length text.now) left.now (shown_kind strings.new x.0.what) x.1.now) }
     ensures shorter { IfOk result (λ x. length x.1.now < length left.now) }
     ensures text { IfOk result (λ x. HasText (length strings.new) x.0.what) }
     ensures table { IfOk result (λ x. strings.new ≡ interned strings.old (text_of (shown_kind strings.new x.0.what))) }

@@ -1,5 +1,6 @@
 //! The arguments of a pattern, point by point.
-ghost use Rattle.std.specs.Prelude.{◌≡◌, ◌≢◌, false, ◌+◌, ◌-◌, ◌<◌, ◌^◌, ◌∷◌, [], ◌++◌, ℕ, Some, None, List as Sequence, map, max, length, unwrap_or, IfOk, IfErr, OnOk, IsTrue, ◌⊎◌};
+ghost use Rattle.std.specs.Prelude.{◌≡◌, ◌≢◌, false, ◌+◌, ◌-◌, ◌<◌, ◌^◌, ◌∷◌, [], ◌++◌, ℕ, Some, None};
+ghost use Rattle.std.specs.Prelude.{List as Sequence, map, max, length, unwrap_or, IfOk, IfErr, OnOk, IsTrue, ◌⊎◌};
 ghost use Rattle.std.specs.List.{range_with_len};
 ghost use Rattle.ptg_patterns.specs.declared.written.Point.{Point as PointOf};
 ghost use Rattle.ptg_patterns.specs.Clashes.{IsMixed};
@@ -62,7 +63,8 @@ fn put(types: &mut Vec<Option<ValueType>>, number: u32, kind: ValueType) -> Resu
 
 /// The types from the first number on, that of a text where there is none.
 fn types_from_one(alloc: Global, types: &[Option<ValueType>]) -> Result<Vec<ValueType>, PtgFault>
-    ensures types { IfOk result (λ found. found.items ≡ map (λ j. unwrap_or (type_at types.now j) ValueType.Text) (range_with_len 1 (length types.now - 1))) }
+    ensures types { IfOk result (λ found. found.items
+        ≡ map (λ j. unwrap_or (type_at types.now j) ValueType.Text) (range_with_len 1 (length types.now - 1))) }
     ensures memory { IfErr result (λ e. e ≡ PtgFault.Memory) }
 {
     let mut found = Vec::new(alloc);
@@ -107,7 +109,8 @@ impl Arguments {
     /// Notes that there is one more point, whose argument has this number.
     fn note(&mut self, point: Point, number: u32) -> Result<(), PtgFault>
         requires { self.old.count + 1 < 2 ^ 32 }
-        ensures kept { OnOk result ((points : Sequence PointOf) → RecordsPoints self.old points → number ≡ unwrap_or point.number (length points + 1)
+        ensures kept { OnOk result ((points : Sequence PointOf) → RecordsPoints self.old points
+            → number ≡ unwrap_or point.number (length points + 1)
             → RecordsPoints self.new (points ++ point ∷ [])) }
         ensures memory { IfErr result (λ e. e ≡ PtgFault.Memory) }
     {
@@ -127,8 +130,10 @@ impl Arguments {
     /// the answer is `PtgMixed`.
     pub fn insert(&mut self, point: Point) -> Result<u32, PtgFault>
         requires { self.old.count + 1 < 2 ^ 32 }
-        ensures number { (points : Sequence PointOf) → RecordsPoints self.old points → IfOk result (λ number. number ≡ unwrap_or point.number (length points + 1)) }
-        ensures kept { (points : Sequence PointOf) → RecordsPoints self.old points → OnOk result (RecordsPoints self.new (points ++ point ∷ []) × ¬ IsMixed points point) }
+        ensures number { (points : Sequence PointOf) → RecordsPoints self.old points
+            → IfOk result (λ number. number ≡ unwrap_or point.number (length points + 1)) }
+        ensures kept { (points : Sequence PointOf) → RecordsPoints self.old points
+            → OnOk result (RecordsPoints self.new (points ++ point ∷ []) × ¬ IsMixed points point) }
         ensures fault { (points : Sequence PointOf) → RecordsPoints self.old points
             → IfErr result (λ e. (e ≡ PtgFault.Memory) ⊎ ((e ≡ PtgFault.PtgMixed point.at) × IsMixed points point)) }
     {
@@ -147,7 +152,8 @@ impl Arguments {
 
     /// The types of the arguments, from the first on.
     pub fn types(&self, alloc: Global) -> Result<Vec<ValueType>, PtgFault>
-        ensures types { (points : Sequence PointOf) → RecordsPoints self.now points → IfOk result (λ types. types.items ≡ argument_types (arguments 1 points)) }
+        ensures types { (points : Sequence PointOf) → RecordsPoints self.now points
+            → IfOk result (λ types. types.items ≡ argument_types (arguments 1 points)) }
         ensures memory { IfErr result (λ e. e ≡ PtgFault.Memory) }
     {
         types_from_one(alloc, &self.types)

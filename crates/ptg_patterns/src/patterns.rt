@@ -1,5 +1,6 @@
 //! Patterns from what is written.
-ghost use Rattle.std.specs.Prelude.{◌≡◌, ◌⊎◌, ◌||◌, ◌+◌, ◌<◌, ◌≤◌, ◌^◌, ◌∷◌, [], ◌++◌, length, map, false, slice_get, slice_index_or, unwrap_or, All, IfOk, IfErr, OnOk, List as Sequence};
+ghost use Rattle.std.specs.Prelude.{◌≡◌, ◌⊎◌, ◌||◌, ◌+◌, ◌<◌, ◌≤◌, ◌^◌, ◌∷◌, [], ◌++◌, length, map, false, slice_get};
+ghost use Rattle.std.specs.Prelude.{slice_index_or, unwrap_or, All, IfOk, IfErr, OnOk, List as Sequence};
 ghost use Rattle.ptg_patterns.specs.declared.written.Point.{Point as PointOf};
 ghost use Rattle.ptg_patterns.specs.Clashes.{CantStand, IsClash, IsMixed, IsMixedAt, is_reserved};
 ghost use Rattle.ptg_patterns.specs.First.{HasNoClash};
@@ -15,11 +16,15 @@ use std::alloc::Global;
 /// What an item prints; a point goes among the arguments.
 fn part(arguments: &mut Arguments, item: Item) -> Result<Part, PtgFault>
     requires { arguments.old.count + 1 < 2 ^ 32 }
-    ensures part { (before : Sequence PointOf) → RecordsPoints arguments.old before → IfOk result (λ part. part ∷ [] ≡ parts (length before + 1) (item ∷ [])) }
-    ensures kept { (before : Sequence PointOf) → RecordsPoints arguments.old before → OnOk result (RecordsPoints arguments.new (before ++ points (item ∷ []))) }
-    ensures agrees { (before : Sequence PointOf) → RecordsPoints arguments.old before → OnOk result (HasNoClash IsMixed before → HasNoClash IsMixed (before ++ points (item ∷ []))) }
+    ensures part { (before : Sequence PointOf) → RecordsPoints arguments.old before
+        → IfOk result (λ part. part ∷ [] ≡ parts (length before + 1) (item ∷ [])) }
+    ensures kept { (before : Sequence PointOf) → RecordsPoints arguments.old before
+        → OnOk result (RecordsPoints arguments.new (before ++ points (item ∷ []))) }
+    ensures agrees { (before : Sequence PointOf) → RecordsPoints arguments.old before
+        → OnOk result (HasNoClash IsMixed before → HasNoClash IsMixed (before ++ points (item ∷ []))) }
     ensures fault { (before : Sequence PointOf) → RecordsPoints arguments.old before
-        → IfErr result (λ e. (e ≡ PtgFault.Memory) ⊎ ((point : PointOf) × (points (item ∷ []) ≡ point ∷ []) × (e ≡ PtgFault.PtgMixed point.at) × IsMixed before point)) }
+        → IfErr result (λ e. (e ≡ PtgFault.Memory) ⊎ ((point : PointOf) × (points (item ∷ []) ≡ point ∷ [])
+        × (e ≡ PtgFault.PtgMixed point.at) × IsMixed before point)) }
 {
     let brace = item.brace;
     match item.content {

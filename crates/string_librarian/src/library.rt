@@ -1,5 +1,6 @@
 //! All rooms together, and how their texts are written.
-ghost use Rattle.std.specs.Prelude.{◌≡◌, ◌+◌, ◌<◌, ◌≤◌, ◌^◌, ◌++◌, ◌&&◌, not, IfOk, IfErr, OnOk, OnErr, List, ℕ, Some, length, take, slice_get, vec_len, vec_capacity};
+ghost use Rattle.std.specs.Prelude.{◌≡◌, ◌+◌, ◌<◌, ◌≤◌, ◌^◌, ◌++◌, ◌&&◌, not, IfOk, IfErr, OnOk, OnErr, List, ℕ, Some};
+ghost use Rattle.std.specs.Prelude.{length, take, slice_get, vec_len, vec_capacity};
 ghost use Rattle.std.specs.Io.KnownBytes.{Appends};
 ghost use Rattle.std.specs.List.{list_all};
 ghost use Rattle.lido_base.specs.Causes.{Rose};
@@ -232,7 +233,8 @@ impl Library {
         requires room { all_cells self.now ≤ vec_capacity pending.old }
         ensures text { (texts : List (List ℕ)) (bytes : List ℕ) → IsLine self.now patterns.now.list texts pending.old.items
             → AreLeft self.now patterns.now.list texts pending.old.items bytes
-            → (rest : List ℕ) × (bytes ≡ output_bytes texts result ++ rest) × AreLeft self.now patterns.now.list texts pending.new.items rest
+            → (rest : List ℕ) × (bytes ≡ output_bytes texts result ++ rest)
+            × AreLeft self.now patterns.now.list texts pending.new.items rest
             × IsLine self.now patterns.now.list texts pending.new.items }
         ensures smaller { all_steps self.now patterns.now.list (all_cells self.now) pending.new.items
             < all_steps self.now patterns.now.list (all_cells self.now) pending.old.items }
@@ -260,7 +262,8 @@ impl Library {
 fn put<K: Sink>(sink: &mut K, strings: &Strings, output: Output) -> Result<u64, WriteFault>
     ensures all { OnOk result (Appends (K.written sink.old) (K.written sink.new) (output_bytes strings.now output)) }
     ensures count { IfOk result (λ n. n ≡ length (output_bytes strings.now output)) }
-    ensures part { IfErr result (λ e. Appends (K.written sink.old) (K.written sink.new) (take e.written (output_bytes strings.now output))) }
+    ensures part { IfErr result (λ e. Appends (K.written sink.old) (K.written sink.new)
+        (take e.written (output_bytes strings.now output))) }
     ensures short { IfErr result (λ e. e.written < length (output_bytes strings.now output)) }
     ensures fault { OnErr result (Rose (K.faults sink.old) (K.faults sink.new)) }
     ensures later { K.faults sink.old ≤ K.faults sink.new }

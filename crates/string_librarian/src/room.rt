@@ -1,5 +1,6 @@
 //! Rooms: what is kept of the texts that were built, none of them copied.
-ghost use Rattle.std.specs.Prelude.{◌≡◌, ◌+◌, ◌-◌, ◌≤◌, [], ◌∷◌, ◌++◌, IfOk, List, ℕ, Some, map, length, slice_get, slice_set, vec_len, vec_capacity};
+ghost use Rattle.std.specs.Prelude.{◌≡◌, ◌+◌, ◌-◌, ◌≤◌, [], ◌∷◌, ◌++◌, IfOk, List, ℕ, Some, map, length, slice_get};
+ghost use Rattle.std.specs.Prelude.{slice_set, vec_len, vec_capacity};
 ghost use Rattle.lido_base.specs.declared.value.Desc.{Desc as Descriptor};
 ghost use Rattle.lido_base.specs.declared.pattern.Pattern.{Pattern as TextPattern};
 ghost use Rattle.string_librarian.specs.Parts.{argument_of};
@@ -64,7 +65,11 @@ impl Room {
     /// of the arguments, this is the text that the descriptor denotes.
     pub fn deposit(&mut self, piece: Piece, args: &[Value], len: u32) -> Desc
         requires { 1 + length args.now ≤ self.old.space }
-        ensures room { self.new ≡ record { number = self.old.number; deposits = self.old.deposits ++ (record { piece = piece; args = args.now; len = len }) ∷ []; space = self.old.space - (1 + length args.now) } }
+        ensures room { self.new ≡ record {
+          number = self.old.number;
+          deposits = self.old.deposits ++ (record { piece = piece; args = args.now; len = len }) ∷ [];
+          space = self.old.space - (1 + length args.now);
+        } }
         ensures descriptor { result ≡ record { room = self.old.number; node = 1 + cells_of self.old.deposits; len = len } }
         ensures denotes { (texts : List (List ℕ)) (patterns : List TextPattern) (rooms : List RoomState) (bytes : List ℕ)
             → slice_get rooms self.new.number ≡ Some self.new → Makes texts patterns rooms piece args.now bytes

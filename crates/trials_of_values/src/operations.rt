@@ -1,5 +1,6 @@
 // What the operations give at their edges.
-ghost use Rattle.std.specs.Prelude.{◌≡◌, ◌≢◌, ◌+◌, ◌-◌, ◌^◌, ◌++◌, if◌then◌else◌, flat_map, Contains, [], ◌∷◌, ℕ, pos, negsuc, true, false, codes, length, List, None, All};
+ghost use Rattle.std.specs.Prelude.{◌≡◌, ◌≢◌, ◌+◌, ◌-◌, ◌^◌, ◌++◌, if◌then◌else◌, flat_map, Contains, [], ◌∷◌, ℕ, pos};
+ghost use Rattle.std.specs.Prelude.{negsuc, true, false, codes, length, List, None, All};
 ghost use Rattle.lido_base.specs.Operations.{operate, argument, pattern_bytes, piece_bytes, chosen, last, unless_bad, kept};
 ghost use Rattle.lido_base.specs.Plain.{Plain, Int, Truth, Str, Text, Void, Bad, fault_of};
 ghost use Rattle.lido_base.specs.declared.operation.Op.{Op as Operation};
@@ -10,7 +11,8 @@ ghost use Rattle.lido_base.specs.declared.pattern.Pattern.{Pattern};
 ghost use Rattle.lido_base.specs.declared.value.Origin.{Origin};
 ghost use Rattle.lido_base.specs.declared.value.BadKind.TheVariants.{Overflow, DivideByZero, TextTooLong};
 ghost use Rattle.lido_base.specs.declared.value.ValueType.TheVariants as kind;
-ghost use Rattle.trials_of_values.specs.Samples.{gives, fails, earlier, least, greatest, spaced, without_texts, two_texts, skipping, of_string};
+ghost use Rattle.trials_of_values.specs.Samples.{gives, fails, earlier, least, greatest, spaced, without_texts};
+ghost use Rattle.trials_of_values.specs.Samples.{two_texts, skipping, of_string};
 
 /// Division truncates towards zero, and `%` has the dividend's sign.
 pub fn division()
@@ -53,7 +55,8 @@ pub fn bad_arguments()
     ensures of_two { gives [] op.Add (Bad (earlier DivideByZero) ∷ Bad (earlier Overflow) ∷ []) ≡ Bad (earlier DivideByZero) }
     ensures before_its_own { gives [] op.Div (Bad (earlier Overflow) ∷ Int (pos 0) ∷ []) ≡ Bad (earlier Overflow) }
     ensures one { gives [] op.ArgToOne (Bad (earlier Overflow) ∷ []) ≡ Bad (earlier Overflow) }
-    ensures skipped { gives (skipping ∷ []) (op.Pattern 0) (Bad (earlier Overflow) ∷ Int (pos 5) ∷ Text [] ∷ Text [] ∷ []) ≡ Bad (earlier Overflow) }
+    ensures skipped { gives (skipping ∷ []) (op.Pattern 0) (Bad (earlier Overflow) ∷ Int (pos 5) ∷ Text [] ∷ Text [] ∷ [])
+        ≡ Bad (earlier Overflow) }
 {}
 
 /// Strings are compared by their bytes, ints by their order.
@@ -123,7 +126,8 @@ pub fn braces_of_every_pattern()
         → pattern_bytes texts (pattern ∷ []) 0 args ≡ flat_map (λ (part : Part). piece_bytes texts args part.piece) pattern.parts }
     ensures empty { (texts : List (List ℕ)) (pattern : Pattern) (args : List Plain) (part : Part) (k : ℕ)
         → Contains pattern.parts part → part.piece ≡ Arg k → argument args k ≡ Text []
-        → pattern_bytes texts (pattern ∷ []) 0 args ≡ flat_map (λ (p : Part). if p.brace then [] else piece_bytes texts args p.piece) pattern.parts }
+        → pattern_bytes texts (pattern ∷ []) 0 args
+        ≡ flat_map (λ (p : Part). if p.brace then [] else piece_bytes texts args p.piece) pattern.parts }
 {}
 
 /// A place of type VOID keeps Void or the Bad value; the others keep the value.
@@ -142,5 +146,6 @@ pub fn worked_expressions()
     ensures difference { gives [] op.Sub (Int (pos 0) ∷ gives [] op.Div (Int (pos 7) ∷ Int (pos 2) ∷ []) ∷ []) ≡ Int (negsuc 2) }
     ensures remainder { gives [] op.Mod (gives [] op.Neg (Int (pos 7) ∷ []) ∷ Int (pos 2) ∷ []) ≡ Int (negsuc 0) }
     ensures ordered { unless_bad (Truth true ∷ Int (pos 2) ∷ []) (last (Truth true ∷ Int (pos 2) ∷ [])) ≡ Int (pos 2) }
-    ensures ordered_bad { unless_bad (Bad (earlier Overflow) ∷ Int (pos 2) ∷ []) (last (Bad (earlier Overflow) ∷ Int (pos 2) ∷ [])) ≡ Bad (earlier Overflow) }
+    ensures ordered_bad { unless_bad (Bad (earlier Overflow) ∷ Int (pos 2) ∷ []) (last (Bad (earlier Overflow) ∷ Int (pos 2) ∷ []))
+        ≡ Bad (earlier Overflow) }
 {}

@@ -19,11 +19,13 @@ use string_librarian::bytes_of;
 pub fn computed(op: Op, args: &[Value], strings: &Strings) -> Result<Value, BadKind>
     ensures value { (patterns : List TextPattern) (rooms : List RoomState) (reading : Descriptor → List ℕ) → piece_of op ≡ None
         → DenoteAll strings.now patterns rooms reading args.now
-        → IsOutcome strings.now patterns rooms result (λ fails. applied strings.now patterns fails op (map (read_by strings.now reading) args.now)) }
+        → IsOutcome strings.now patterns rooms result
+        (λ fails. applied strings.now patterns fails op (map (read_by strings.now reading) args.now)) }
     ensures handed { (v : Given) → handed_on op args.now ≡ Some v → result ≡ Ok v }
     ensures unread { (patterns : List TextPattern) (rooms : List RoomState) (reading : Descriptor → List ℕ) → piece_of op ≡ None
         → handed_on op args.now ≡ None
-        → IsOutcome strings.now patterns rooms result (λ fails. applied strings.now patterns fails op (map (read_by strings.now reading) args.now)) }
+        → IsOutcome strings.now patterns rooms result
+        (λ fails. applied strings.now patterns fails op (map (read_by strings.now reading) args.now)) }
 {
     let Some((a, rest)) = next(args) else {
         return Ok(of_none(op));
@@ -49,7 +51,8 @@ fn next(args: &[Value]) -> Option<(Value, &[Value])>
 
 /// What an operation gives for no arguments.
 fn of_none(op: Op) -> Value
-    ensures value { (texts : List (List ℕ)) (patterns : List TextPattern) (rooms : List RoomState) (fails : Failure → Plain) → piece_of op ≡ None
+    ensures value { (texts : List (List ℕ)) (patterns : List TextPattern) (rooms : List RoomState) (fails : Failure → Plain)
+        → piece_of op ≡ None
         → StandsFor texts patterns rooms result (applied texts patterns fails op []) }
     ensures handed { (v : Given) → handed_on op [] ≡ Some v → result ≡ v }
 {
@@ -63,11 +66,13 @@ fn of_none(op: Op) -> Value
 
 /// What an operation gives for one argument.
 fn of_one(op: Op, a: Value) -> Result<Value, BadKind>
-    ensures value { (texts : List (List ℕ)) (patterns : List TextPattern) (rooms : List RoomState) (reading : Descriptor → List ℕ) → piece_of op ≡ None
+    ensures value { (texts : List (List ℕ)) (patterns : List TextPattern) (rooms : List RoomState) (reading : Descriptor → List ℕ)
+        → piece_of op ≡ None
         → DenoteAll texts patterns rooms reading (a ∷ [])
         → IsOutcome texts patterns rooms result (λ fails. applied texts patterns fails op (read_by texts reading a ∷ [])) }
     ensures handed { (v : Given) → handed_on op (a ∷ []) ≡ Some v → result ≡ Ok v }
-    ensures unread { (texts : List (List ℕ)) (patterns : List TextPattern) (rooms : List RoomState) (reading : Descriptor → List ℕ) → piece_of op ≡ None
+    ensures unread { (texts : List (List ℕ)) (patterns : List TextPattern) (rooms : List RoomState) (reading : Descriptor → List ℕ)
+        → piece_of op ≡ None
         → handed_on op (a ∷ []) ≡ None
         → IsOutcome texts patterns rooms result (λ fails. applied texts patterns fails op (read_by texts reading a ∷ [])) }
 {
@@ -89,7 +94,8 @@ fn of_one(op: Op, a: Value) -> Result<Value, BadKind>
 /// What an operation gives for two arguments.
 fn of_two(op: Op, a: Value, b: Value, strings: &Strings) -> Result<Value, BadKind>
     ensures { (patterns : List TextPattern) (rooms : List RoomState) (reading : Descriptor → List ℕ) → piece_of op ≡ None
-        → IsOutcome strings.now patterns rooms result (λ fails. applied strings.now patterns fails op (read_by strings.now reading a ∷ read_by strings.now reading b ∷ [])) }
+        → IsOutcome strings.now patterns rooms result
+        (λ fails. applied strings.now patterns fails op (read_by strings.now reading a ∷ read_by strings.now reading b ∷ [])) }
 {
     match a {
         Value::Int(x) => of_int_and(op, x, b),
@@ -107,7 +113,8 @@ fn of_two(op: Op, a: Value, b: Value, strings: &Strings) -> Result<Value, BadKin
 
 /// What an operation gives for an int and another argument.
 fn of_int_and(op: Op, x: i64, b: Value) -> Result<Value, BadKind>
-    ensures { (texts : List (List ℕ)) (patterns : List TextPattern) (rooms : List RoomState) (reading : Descriptor → List ℕ) → piece_of op ≡ None
+    ensures { (texts : List (List ℕ)) (patterns : List TextPattern) (rooms : List RoomState) (reading : Descriptor → List ℕ)
+        → piece_of op ≡ None
         → IsOutcome texts patterns rooms result (λ fails. applied texts patterns fails op (Whole x ∷ read_by texts reading b ∷ [])) }
 {
     match b {
@@ -153,7 +160,8 @@ fn of_bools(op: Op, x: bool, y: bool) -> Value
 
 /// What an operation gives for two strings, which are the same or not.
 fn of_same(op: Op, same: bool) -> Value
-    ensures { (texts : List (List ℕ)) (patterns : List TextPattern) (rooms : List RoomState) (fails : Failure → Plain) (s t : List ℕ) → piece_of op ≡ None
+    ensures { (texts : List (List ℕ)) (patterns : List TextPattern) (rooms : List RoomState) (fails : Failure → Plain) (s t : List ℕ)
+        → piece_of op ≡ None
         → same ≡ bytes_eq s t → StandsFor texts patterns rooms result (applied texts patterns fails op (Words s ∷ Words t ∷ [])) }
 {
     match op {

@@ -16,7 +16,8 @@ pub fn results_stand_for_plain_values()
     ensures { (texts : List (List ℕ)) (patterns : List Pattern) (number : ℕ) (rooms : List Deposit → List RoomState) → IsFamily number rooms
         → (node comp : ℕ) (op : Op) (args : List Value) (plains : List Plain) (ds : List Deposit)
         → AllZip (StandsFor texts patterns (rooms ds)) args plains
-        → StandsAfter texts patterns rooms ds (result_of texts patterns number node comp op args ds) (operate texts patterns (bad_at node comp) op plains) }
+        → StandsAfter texts patterns rooms ds (result_of texts patterns number node comp op args ds)
+        (operate texts patterns (bad_at node comp) op plains) }
 {}
 
 /// One room alone, with whatever space, has what the law above asks of the rooms of a run.

@@ -7,7 +7,8 @@ ghost use Rattle.lido_base.specs.declared.value.Value.{Value as Given};
 ghost use Rattle.string_librarian.specs.Denotes.{Denotes, read_by};
 ghost use Rattle.string_librarian.specs.Rooms.{RoomState, cells_of};
 ghost use Rattle.value_ops.specs.Results.{answered, piece_result, result_of};
-ghost use Rattle.value_ops.specs.Outcome.{after, bad_at, cells_wanted, piece_of, handed_on, fits, first_bad as first_bad_of, made, DenoteAll, IsOutcome, StandsFor};
+ghost use Rattle.value_ops.specs.Outcome.{after, bad_at, cells_wanted, piece_of, handed_on, fits};
+ghost use Rattle.value_ops.specs.Outcome.{first_bad as first_bad_of, made, DenoteAll, IsOutcome, StandsFor};
 
 use crate::compute::computed;
 use crate::lengths::printed_len;
@@ -30,7 +31,8 @@ pub fn apply(
     requires { cells_wanted op args.now ≤ room.old.space }
 
     // The value and the deposits, whatever the arguments are.
-    ensures exact { (result, room.new.deposits) ≡ result_of strings.now patterns.now.list room.old.number node comp op args.now room.old.deposits }
+    ensures exact { (result, room.new.deposits)
+        ≡ result_of strings.now patterns.now.list room.old.number node comp op args.now room.old.deposits }
 
     // The value is that of the operation over plain values, wherever the texts among the arguments denote texts.
     ensures value { (rooms : List RoomState) (reading : Descriptor → List ℕ) → slice_get rooms room.new.number ≡ Some room.new
@@ -75,7 +77,8 @@ fn outcome_of(
     ensures room { MatchResult result (λ v. room.new ≡ after room.old op args.now v) (λ _. room.new ≡ room.old) }
     ensures handed { (v : Given) → handed_on op args.now ≡ Some v → result ≡ Ok v }
     ensures exact { (node comp : ℕ) → first_bad_of args.now ≡ None
-        → (answered node comp result, room.new.deposits) ≡ result_of strings.now patterns.now.list room.old.number node comp op args.now room.old.deposits }
+        → (answered node comp result, room.new.deposits)
+        ≡ result_of strings.now patterns.now.list room.old.number node comp op args.now room.old.deposits }
     ensures descriptor { (d : Descriptor) → IsSome (piece_of op) → result ≡ Ok (Value.Text d)
         → d ≡ record { room = room.old.number; node = 1 + cells_of room.old.deposits; len = d.len } }
     ensures earlier { (rooms : List RoomState) (d : Descriptor) (bytes : List ℕ) → slice_get rooms room.old.number ≡ Some room.old
@@ -103,7 +106,8 @@ fn built(
         (λ fails. applied strings.now patterns.now.list fails op (map (read_by strings.now reading) args.now)) }
     ensures room { MatchResult result (λ v. room.new ≡ made room.old piece args.now v) (λ _. room.new ≡ room.old) }
     ensures exact { (node comp : ℕ)
-        → (answered node comp result, room.new.deposits) ≡ piece_result strings.now patterns.now.list room.old.number node comp piece args.now room.old.deposits }
+        → (answered node comp result, room.new.deposits)
+        ≡ piece_result strings.now patterns.now.list room.old.number node comp piece args.now room.old.deposits }
     ensures descriptor { (d : Descriptor) → result ≡ Ok (Value.Text d)
         → d ≡ record { room = room.old.number; node = 1 + cells_of room.old.deposits; len = d.len } }
     ensures earlier { (rooms : List RoomState) (d : Descriptor) (bytes : List ℕ) → slice_get rooms room.old.number ≡ Some room.old

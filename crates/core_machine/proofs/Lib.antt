@@ -1,0 +1,15 @@
+pub mod Lists
+pub mod Segments
+pub mod Trees
+pub mod Sequences
+pub mod Sites
+pub mod Walk
+pub mod Regions
+pub mod Moves
+pub mod Ends
+pub mod Tasks
+pub mod Jobs
+pub mod Only
+pub mod Expressions
+pub mod FinalLemmas
+pub mod Finals

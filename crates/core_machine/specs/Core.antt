@@ -1,11 +1,12 @@
 -- The machine of a job: the instances of its flat tree in the whole order of its plan, with their regions, and what they give.
-use Rattle.std.specs.Prelude.{◌≡◌, ℕ, suc, ◌+◌, ◌-◌, ◌<◌, ◌≤◌, ◌^◌, ◌==◌, ◌&&◌, Bool, true, false, IsTrue, not, List, [], ◌∷◌, ◌++◌, if◌then◌else◌, length, map, flat_map, find, Option, Some, None, option_and_then, option_map, slice_get, unwrap_or, Contains, All, IsSome}
-use Rattle.std.specs.List.{range_with_len}
+use Rattle.std.specs.Prelude.{◌≡◌, ◌↔◌, ◌⊎◌, ℕ, suc, ◌+◌, ◌-◌, ◌<◌, ◌≤◌, ◌^◌, ◌==◌, ◌&&◌, Bool, true, false, IsTrue, not, List, [], ◌∷◌, ◌++◌, if◌then◌else◌, length, map, flat_map, find, Option, Some, None, option_and_then, option_map, slice_get, unwrap_or, Contains, All, AllPairs}
+use Rattle.std.specs.List.{AllZip, range_with_len}
 use Rattle.std.specs.List.Sorted.{IsStrictlyIncreasing}
 use Rattle.lido_base.specs.declared.ids.SymId.{SymId}
 use Rattle.lido_base.specs.declared.ids.AttrId.{AttrId}
 use Rattle.lido_base.specs.declared.value.Value.{Value}
 use Rattle.lido_base.specs.declared.value.Value.TheVariants as value
+use Rattle.lido_base.specs.declared.value.Desc.{Desc}
 use Rattle.lido_base.specs.declared.value.Origin.{Origin}
 use Rattle.lido_base.specs.declared.value.ValueType.TheVariants as type
 use Rattle.lido_base.specs.declared.pattern.Pattern.{Pattern}
@@ -23,7 +24,7 @@ use Rattle.flat_grammar.specs.declared.flat.FlatComp.{FlatComp}
 use Rattle.flat_grammar.specs.declared.flat.Shape.{Shape}
 use Rattle.flat_grammar.specs.declared.plan.VisitClass.{VisitClass}
 use Rattle.flat_grammar.specs.declared.plan.PlanItem.{PlanItem}
-use Rattle.flat_grammar.specs.Rules.{attribute_at, attrs_of, dependencies}
+use Rattle.flat_grammar.specs.Rules.{attribute_at, attrs_of, dependencies, HasRule}
 use Rattle.flat_grammar.specs.WellFormed.{IsWellFormed, is_same_occ, is_synthesized, attribute_of}
 use Rattle.flat_grammar.specs.SoundPlan.{IsSound}
 use Rattle.flat_grammar.specs.Fitting.{IsFitting, IsWithinLimits}
@@ -49,6 +50,11 @@ pub record Task : Type 0 where
   pub nodes : List ℕ
   pub texts : List (List ℕ)
   pub patterns : List Pattern
+
+-- A note: the written node of a message, and its text.
+pub record Note : Type 0 where
+  pub node : ℕ
+  pub text : Desc
 
 -- a computation of a rule, at a node
 abbrev pub Computation : Type 0
@@ -143,12 +149,36 @@ module _ (j : Task) where
     pub nodes_ascend : IsStrictlyIncreasing j.nodes
     pub nodes_inside : All (λ n. (0 < n) × (n < length j.flat)) j.nodes
 
+  -- the written node of a flat node
+  abbrev pub written_at : ℕ → ℕ
+  written_at n = unwrap_or (slice_get j.node_of n) 0
+
+  -- the order of messages: by written node, then by flat node, then by attribute
+  abbrev pub IsEarlier : Instance → Instance → Type 0
+  IsEarlier i k = (written_at i.0 < written_at k.0) ⊎ ((written_at i.0 ≡ written_at k.0) × ((i.0 < k.0) ⊎ ((i.0 ≡ k.0) × (i.1 < k.1))))
+
+  -- the instance is of an attribute that is marked as a message
+  abbrev pub IsMessage : Instance → Type 0
+  IsMessage i = (r : FlatRule) × (attr : FlatAttr) × HasRule j.rules j.flat i.0 r × (slice_get (attrs_of j.symbols r.left) i.1 ≡ Some attr) × (attr.message ≡ true)
+
+  -- the note tells this text of this instance, which isn't empty
+  abbrev pub Tells : State Instance Value Deposit → Instance → Note → Type 0
+  Tells s i note = (note.node ≡ written_at i.0) × (s.values i ≡ Some (value.Text note.text)) × (0 < note.text.len)
+
+  -- the notes of a state: one for each message with a text that isn't empty, in the order of messages
+  pub record AreNotes (s : State Instance Value Deposit) (notes : List Note) : Type 0 where
+    pub sources : List Instance
+    pub exactly : (i : Instance) → Contains sources i ↔ (IsMessage i × (note : Note) × Tells s i note)
+    pub ordered : AllPairs IsEarlier sources
+    pub tell : AllZip (Tells s) sources notes
+
   -- The result of a state in which all is evaluated: the value of `$out` at the root, the least origin of a Bad value among the
-  -- attributes that are marked as written, and the rooms.
-  pub record IsResult (s : State Instance Value Deposit) (output : Value) (bad : Option Origin) (rooms : List RoomState) : Type 0 where
+  -- attributes that are marked as written, the notes, and the rooms.
+  pub record IsResult (s : State Instance Value Deposit) (output : Value) (bad : Option Origin) (notes : List Note) (rooms : List RoomState) : Type 0 where
     pub value : s.values (0, out) ≡ Some output
     pub least : (o : Origin) → bad ≡ Some o → IsLeastFault j.symbols j.rules j.flat (λ i. option_map (plain j.texts) (s.values i)) o
     pub none : bad ≡ None → (o : Origin) → ¬ IsFaultyAt j.symbols j.rules j.flat (λ i. option_map (plain j.texts) (s.values i)) o
+    pub noted : AreNotes s notes
     pub each_room : map (λ (room : RoomState). room.number) rooms ≡ range_with_len 0 (suc (length j.nodes))
     pub deposits : map (λ (room : RoomState). room.deposits) rooms ≡ map s.rooms (range_with_len 0 (suc (length j.nodes)))
 

@@ -10,6 +10,7 @@ use Rattle.lido_base.specs.Equations.{IsSolution, value_in}
 use Rattle.string_librarian.specs.Rooms.{RoomState, Deposit, HaveGrown}
 use Rattle.value_ops.specs.Outcome.{StandsFor}
 use Rattle.tree_store.specs.Regions.{region}
+use Rattle.lido_base.proofs.Lists.{map-contains}
 use Rattle.flat_grammar.specs.declared.flat.Occ.{Occ}
 use Rattle.flat_grammar.specs.Rules.{dependencies, reads}
 use Rattle.flat_grammar.specs.WellFormed.{attribute_of}
@@ -21,7 +22,6 @@ use Rattle.core_machine.specs.Machine.{Item, State, eval_of, put_of, after, open
 use Rattle.core_machine.specs.Evaluation.{evaluate, kept_value}
 use Rattle.core_machine.specs.Core.{Task, environment, IsTask, Computation, computation_of, home, needs, outcome, gives, instances_in_order, items, machine, rooms_of, IsReadAs, Reads}
 use Rattle.core_machine.proofs.Lists.{split-among}
-use Rattle.core_machine.proofs.Sites.{among-map}
 use Rattle.core_machine.proofs.Moves.{values_else, values_new}
 use Rattle.core_machine.proofs.Ends.{fold-append, fold_made}
 use Rattle.core_machine.proofs.Tasks.{IsOf, computed, computes, home-is, among-eval, eval-among}
@@ -97,7 +97,7 @@ module _ (j : Task) (task : IsTask j) where
         stand : (o : Occ) → Contains (reads c.2.value) o → StandsFor j.texts j.patterns (rooms-by many (changed (home j i) (s.rooms (home j i)) s.rooms)) (values (instance_at j.flat c.0 o)) (B (instance_at (plain_tree j.texts j.flat) c.0 o))
         stand o m =
             let d : Instance = instance_at j.flat c.0 o in
-            let there : Contains (map (instance_at j.flat c.0) (dependencies c.2)) d = among-map (instance_at j.flat c.0) (dependencies c.2) o (Contains-append_left (reads c.2.value) c.2.after o m) in
+            let there : Contains (map (instance_at j.flat c.0) (dependencies c.2)) d = map-contains (instance_at j.flat c.0) (dependencies c.2) o (Contains-append_left (reads c.2.value) c.2.after o m) in
             let need : Contains (needs j i) d = subst (λ (x : Option Computation). Contains (elim x [ None ↦ [] | Some z ↦ map (instance_at j.flat z.0) (dependencies z.2) ]) d) (sym e) there in
             let t = before d ((sound j task).behind front back i d whole need) in
             let grown-here = stands-grows j.texts j.patterns (rooms-by many s.rooms) (rooms-by many (changed (home j i) (s.rooms (home j i)) s.rooms)) t.given t.meaning (rooms-grow many s.rooms (changed (home j i) (s.rooms (home j i)) s.rooms) (changed-self (home j i) s.rooms)) t.stands in

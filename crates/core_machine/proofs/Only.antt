@@ -14,6 +14,7 @@ use Rattle.lido_base.specs.Operations.{operate, unless_bad, chosen, last}
 use Rattle.lido_base.specs.Equations.{IsOrdered, IsSolution, HasOneSolution, value_in}
 use Rattle.lido_base.specs.Tree.{Tree, Item, Child, Leaf, child_number, items_of, rule_at}
 use Rattle.lido_base.proofs.EquationsLemmas.{one_solution}
+use Rattle.lido_base.proofs.Lists.{map-contains}
 use Rattle.flat_grammar.specs.declared.flat.Occ.{Occ}
 use Rattle.flat_grammar.specs.declared.flat.FlatRule.{FlatRule}
 use Rattle.flat_grammar.specs.declared.flat.FlatComp.{FlatComp}
@@ -26,7 +27,7 @@ use Rattle.flat_grammar.proofs.Lists.{contains-nil, contains-cons, contains-firs
 use Rattle.flat_grammar.specs.Instances.{IsGrown, IsInstance, instance_at}
 use Rattle.core_machine.specs.Instances.{IsSite, DependsOn, IsInOrder}
 use Rattle.core_machine.specs.Core.{Task, environment, IsTask, Computation, same_instance, computation_of, needs, instances_in_order}
-use Rattle.core_machine.proofs.Sites.{one-rule, one-site, is-rule, site-instance, among-map}
+use Rattle.core_machine.proofs.Sites.{one-rule, one-site, is-rule, site-instance}
 use Rattle.lido_base.proofs.PlainLemmas.{plain_rule, plain_items}
 use Rattle.core_machine.proofs.Tasks.{IsOf, computed, computes, site-of, same-is, is-same}
 use Rattle.core_machine.proofs.Jobs.{grown, in-order}
@@ -167,7 +168,7 @@ module _ (j : Task) (task : IsTask j) where
       values n r c at m =
           let be = from-plain n r at in
           let i : Instance = instance_at j.flat n c.goal in
-          let site : IsSite j.symbols j.rules j.flat i n c.goal = record { rule = r; at = be; goal = among-map (λ (z : FlatComp). z.goal) r.comps c m; gives = refl } in
+          let site : IsSite j.symbols j.rules j.flat i n c.goal = record { rule = r; at = be; goal = map-contains (λ (z : FlatComp). z.goal) r.comps c m; gives = refl } in
           let is = site-instance j.symbols j.rules j.shapes j.root j.flat task.formed (grown j task) task.root_bare i n c.goal site in
           let k = computes j task (grown j task) order i is in
           let of = computed j task (grown j task) order i k.0 k.1 in

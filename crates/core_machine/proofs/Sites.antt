@@ -11,6 +11,9 @@ use Rattle.lido_base.specs.declared.kinds.Kind.{Kind}
 use Rattle.lido_base.specs.declared.kinds.Kind.TheVariants.{Synthesized, Inherited}
 use Rattle.lido_base.specs.Tree.{Tree, Item, Child, Leaf, child_number, items_of, rule_at, parent_of, place_of, continues, IsTree}
 use Rattle.lido_base.proofs.TreeLemmas.{both}
+use Rattle.lido_base.proofs.Lists.{contains-map, map-contains}
+use Rattle.lido_base.proofs.PathLemmas.{parent_there}
+use Rattle.flat_grammar.proofs.GrownLemmas.{rule-within}
 use Rattle.flat_grammar.specs.declared.flat.Occ.{Occ}
 use Rattle.flat_grammar.specs.declared.flat.FlatSymbol.{FlatSymbol}
 use Rattle.flat_grammar.specs.declared.flat.FlatAttr.{FlatAttr}
@@ -38,22 +41,6 @@ AllZip-left R [] (b ∷ ys) i y h e = absurd h
 AllZip-left R (a ∷ xs) (b ∷ ys) zero y h e = (a, refl, subst (λ u. R a u) (held e) h.0)
 AllZip-left R (a ∷ xs) (b ∷ ys) (suc i) y h e = AllZip-left R xs ys i y h.1 e
 
-pub map-among : {A B : Type 0} (f : A → B) (xs : List A) (y : B) → Contains (map f xs) y → (x : A) × Contains xs x × (f x ≡ y)
-map-among f [] y h = absurd (contains-nil y h)
-map-among f (x ∷ xs) y h = go (contains-cons (f x) y (map f xs) h) (map-among f xs y)
-  where
-    go : (f x ≡ y) ⊎ Contains (map f xs) y → (Contains (map f xs) y → (z : _) × Contains xs z × (f z ≡ y)) → (z : _) × Contains (x ∷ xs) z × (f z ≡ y)
-    go (inl e) later = (x, contains-first x xs, e)
-    go (inr m) later = let p = later m in (p.0, contains-later x p.0 xs p.1, p.2)
-
-pub among-map : {A B : Type 0} (f : A → B) (xs : List A) (x : A) → Contains xs x → Contains (map f xs) (f x)
-among-map f [] x h = absurd (contains-nil x h)
-among-map f (y ∷ xs) x h = go (contains-cons y x xs h) (among-map f xs x)
-  where
-    go : (y ≡ x) ⊎ Contains xs x → (Contains xs x → Contains (map f xs) (f x)) → Contains (f y ∷ map f xs) (f x)
-    go (inl e) later = subst (λ z. Contains (f y ∷ map f xs) (f z)) e (contains-first (f y) (map f xs))
-    go (inr m) later = contains-later (f y) (f x) (map f xs) (later m)
-
 same-occ : (o p : Occ) → o.occ ≡ p.occ → o.attr.0 ≡ p.attr.0 → o ≡ p
 same-occ o p e f = λ i. record { occ = e i; attr = record { 0 = f i } }
 
@@ -66,18 +53,13 @@ are-same o p h = let a = both (nat_eq o.occ p.occ) (nat_eq o.attr.0 p.attr.0) h 
 -- the comps of a rule that have this goal
 pub goal-any : (comps : List FlatComp) (o : Occ) → Contains (map (λ (c : FlatComp). c.goal) comps) o → list_any (λ c. is_same_occ c.goal o) comps ≡ true
 goal-any comps o h =
-    let p = map-among (λ (c : FlatComp). c.goal) comps o h in
+    let p = contains-map (λ (c : FlatComp). c.goal) comps o h in
     list_any-from_Any (λ c. is_same_occ c.goal o) comps (p.1.0, p.0, p.1.1, p.1.2, subst (λ z. is_same_occ z o ≡ true) (sym p.2) (itself o))
 
 pub any-goal : (comps : List FlatComp) (o : Occ) → list_any (λ c. is_same_occ c.goal o) comps ≡ true → Contains (map (λ (c : FlatComp). c.goal) comps) o
 any-goal comps o h =
     let p = Any-from_list_any (λ c. is_same_occ c.goal o) comps h in
-    subst (λ z. Contains (map (λ (c : FlatComp). c.goal) comps) z) (are-same p.1.goal o p.4) (among-map (λ (c : FlatComp). c.goal) comps p.1 (p.0, p.2, p.3))
-
-rule-inside : {V : Type 0} (t : Tree V) (n i : ℕ) → rule_at t n ≡ Some i → n < length t
-rule-inside [] n i e = absurd (none-some _ e)
-rule-inside (node ∷ t) zero i e = omega arith
-rule-inside (node ∷ t) (suc n) i e = let h = rule-inside t n i e in omega arith
+    subst (λ z. Contains (map (λ (c : FlatComp). c.goal) comps) z) (are-same p.1.goal o p.4) (map-contains (λ (c : FlatComp). c.goal) comps p.1 (p.0, p.2, p.3))
 
 module _ {V : Type 0} (symbols : List FlatSymbol) (rules : List FlatRule) (shapes : List Shape) (root : SymId) (t : Tree V)
     (formed : IsWellFormed symbols rules shapes root) (grown : IsGrown symbols rules t root)
@@ -89,7 +71,7 @@ module _ {V : Type 0} (symbols : List FlatSymbol) (rules : List FlatRule) (shape
   is-rule n r (i, e, f) = All-contains (IsRule symbols) rules r formed.each_rule (contains-slice_get rules i r f)
 
   pub inside : (n : ℕ) (r : FlatRule) → HasRule rules t n r → n < length t
-  inside n r (i, e, f) = rule-inside t n i e
+  inside n r (i, e, f) = rule-within t n i e
 
   -- an attribute occurrence is an attribute of the symbol there
   symbol-of : (r : FlatRule) (o : Occ) (attr : FlatAttr) → attribute_of symbols r o ≡ Some attr → (s : SymId) × (symbol_at r o.occ ≡ Some s) × (attribute_at symbols s o.attr ≡ Some attr)
@@ -227,19 +209,11 @@ module _ {V : Type 0} (symbols : List FlatSymbol) (rules : List FlatRule) (shape
   pub site-instance : (i : Instance) (n : ℕ) (o : Occ) → IsSite symbols rules t i n o → IsInstance symbols rules t i
   site-instance i n o s = let p = placed i n o s in (p.rule, p.at, at-attrs p.rule.left i.1 p.attr p.is)
 
-  -- a node that has no parent is the root
-  parent-there : (n : ℕ) → n + 1 < length t → (p : ℕ) × (parent_of t (n + 1) ≡ Some p)
-  parent-there n h = go (parent_of t (n + 1)) refl (grown.tree.in_preorder n h)
-    where
-      go : (o : Option ℕ) → parent_of t (n + 1) ≡ o → IsTrue (continues t n o) → (p : ℕ) × (parent_of t (n + 1) ≡ Some p)
-      go None e c = cc
-      go (Some p) e c = (p, e)
-
   pub above : (m : ℕ) → 0 < m → m < length t → (p : ℕ) × (k : ℕ) × (child_at t p (suc k) ≡ Some m)
   above zero h l = absurd (omega arith)
   above (suc n) h l =
       let e : n + 1 ≡ suc n = omega arith in
-      let q = parent-there n (omega arith) in
+      let q = parent_there t grown.tree n (omega arith) in
       let c = parent-child t grown.tree (suc n) q.0 l (subst (λ x. parent_of t x ≡ Some q.0) e q.1) in (q.0, c.0, c.1)
 
   -- the symbol at the occurrence where a child stands is the child's

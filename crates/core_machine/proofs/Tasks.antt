@@ -14,6 +14,8 @@ use Rattle.lido_base.specs.Tree.{Tree, rule_at, parent_of, place_of, contains, a
 use Rattle.lido_base.proofs.TreeLemmas.{both, ancestors-child, contains-test, test-contains}
 use Rattle.string_librarian.specs.Rooms.{Deposit}
 use Rattle.tree_store.specs.Regions.{region, number_found}
+use Rattle.lido_base.proofs.Lists.{contains-map, map-contains, contains-flat, flat-contains}
+use Rattle.lido_base.proofs.PathLemmas.{with_parent_inside}
 use Rattle.flat_grammar.specs.declared.flat.Occ.{Occ}
 use Rattle.flat_grammar.specs.declared.flat.FlatAttr.{FlatAttr}
 use Rattle.flat_grammar.specs.declared.flat.FlatRule.{FlatRule}
@@ -30,9 +32,9 @@ use Rattle.core_machine.specs.Machine.{Item, Machine, eval_of, put_of, IsSound}
 use Rattle.core_machine.specs.Evaluation.{evaluate, evaluate_all, evaluate_if, evaluate_at, kept_value, decided, in_turn}
 use Rattle.value_ops.specs.Results.{result_of}
 use Rattle.core_machine.specs.Core.{Task, IsTask, Computation, same_instance, rule_of, computation_at, computation_of, home, needs, outcome, gives, instances_in_order, items_for, items, machine}
-use Rattle.core_machine.proofs.Lists.{among-flat_map, flat_map-among, head-same, tail-same, split-append, none-split, InFirst, InSecond}
+use Rattle.core_machine.proofs.Lists.{head-same, tail-same, split-append, none-split, InFirst, InSecond}
 use Rattle.core_machine.proofs.Trees.{child-facts, parent-child}
-use Rattle.core_machine.proofs.Sites.{one-rule, inside, one-site, Placed, placed, instance-site, goal-any, are-same, map-among, among-map, site-instance}
+use Rattle.core_machine.proofs.Sites.{one-rule, inside, one-site, Placed, placed, instance-site, goal-any, are-same, site-instance}
 
 find-is : {A : Type 0} (p : A → Bool) (xs : List A) (x : A) → find p xs ≡ Some x → Contains xs x × (p x ≡ true)
 find-is p [] x e = absurd (none-some _ e)
@@ -92,11 +94,6 @@ module _ (texts : List (List ℕ)) (patterns : List Pattern) (number : ℕ) (t :
     at-same (more_of-FlatExpr e es) zero ds a = evaluate-same e ds (left-agrees (reads e) (reads_of_all es) a)
     at-same (more_of-FlatExpr e es) (suc k) ds a = at-same es k ds (right-agrees (reads e) (reads_of_all es) a)
 
-parent-inside : {V : Type 0} (t : Tree V) (n p : ℕ) → parent_of t n ≡ Some p → n < length t
-parent-inside [] n p e = absurd (none-some _ e)
-parent-inside (node ∷ t) zero p e = omega arith
-parent-inside (node ∷ t) (suc n) p e = let h = parent-inside t n p e in omega arith
-
 -- What a node's region is: its own where it is a split node, else its parent's.
 pub region-parent : {V : Type 0} (t : Tree V) → IsTree t → (nodes : List ℕ) (n p : ℕ) → parent_of t n ≡ Some p → contains n nodes ≡ false → region t nodes n ≡ region t nodes p
 region-parent t w nodes n p e h =
@@ -144,17 +141,17 @@ module _ (j : Task) where
       go (inr (rest, p, q)) later = subst (λ l. Contains l (eval_of i)) (sym p) (Contains-append_right (items_for j x) rest (eval_of i) (later rest back i q))
 
   pub eval-among : (L : List Instance) (i : Instance) → Contains L i → Contains (flat_map (items_for j) L) (eval_of i)
-  eval-among L i m = flat_map-among (items_for j) L i (eval_of i) m (here (contains i.0 j.nodes))
+  eval-among L i m = flat-contains (items_for j) L i (eval_of i) m (here (contains i.0 j.nodes))
     where
       here : (b : Bool) → Contains (if b then eval_of i ∷ put_of i ∷ [] else eval_of i ∷ []) (eval_of i)
       here true = contains-first (eval_of i) (put_of i ∷ [])
       here false = contains-first (eval_of i) []
 
   put-among : (L : List Instance) (i : Instance) → contains i.0 j.nodes ≡ true → Contains L i → Contains (flat_map (items_for j) L) (put_of i)
-  put-among L i h m = flat_map-among (items_for j) L i (put_of i) m (subst (λ (b : Bool). Contains (if b then eval_of i ∷ put_of i ∷ [] else eval_of i ∷ []) (put_of i)) (sym h) (contains-later (eval_of i) (put_of i) (put_of i ∷ []) (contains-first (put_of i) [])))
+  put-among L i h m = flat-contains (items_for j) L i (put_of i) m (subst (λ (b : Bool). Contains (if b then eval_of i ∷ put_of i ∷ [] else eval_of i ∷ []) (put_of i)) (sym h) (contains-later (eval_of i) (put_of i) (put_of i ∷ []) (contains-first (put_of i) [])))
 
   pub among-eval : (L : List Instance) (i : Instance) → Contains (flat_map (items_for j) L) (eval_of i) → Contains L i
-  among-eval L i m = let p = among-flat_map (items_for j) L (eval_of i) m in subst (λ z. Contains L z) (makes (contains p.0.0 j.nodes) p.0 p.2) p.1
+  among-eval L i m = let p = contains-flat (items_for j) L (eval_of i) m in subst (λ z. Contains L z) (makes (contains p.0.0 j.nodes) p.0 p.2) p.1
     where
       makes : (b : Bool) (x : Instance) → Contains (if b then eval_of x ∷ put_of x ∷ [] else eval_of x ∷ []) (eval_of i) → x ≡ i
       makes true x h = elim (contains-cons (eval_of x) (eval_of i) (put_of x ∷ []) h) [
@@ -229,7 +226,7 @@ module _ (j : Task) where
         up : (x : Option ℕ) → parent_of j.flat i.0 ≡ x → option_and_then (λ p. computation_at j p (record { occ = place_of j.flat i.0; attr = record { 0 = i.1 } })) x ≡ Some k → IsOf i k
         up None f h = absurd (none-some _ h)
         up (Some p) f h =
-            let c = parent-child j.flat grown.tree i.0 p (parent-inside j.flat i.0 p f) f in
+            let c = parent-child j.flat grown.tree i.0 p (with_parent_inside j.flat i.0 p f) f in
             let facts = child-facts j.flat grown.tree p (suc c.0) i.0 c.1 in
             let node : node_at j.flat p (place_of j.flat i.0) ≡ i.0 = ap (λ z. node_at j.flat p z) facts.placed ∙ ap (λ z. unwrap_or z p) c.1 in
             from p (record { occ = place_of j.flat i.0; attr = record { 0 = i.1 } }) (λ x. (sym node x, i.1)) h
@@ -272,7 +269,7 @@ module _ (j : Task) where
                     either (computation_at j i.0 (record { occ = 0; attr = record { 0 = i.1 } })) refl (q.0, f)
 
     pub site-of : (i : Instance) (k : Computation) → IsOf i k → Site i k.0 k.2.goal
-    site-of i k c = record { rule = k.1; at = c.at; goal = among-map (λ (z : FlatComp). z.goal) k.1.comps k.2 c.comp; gives = c.gives }
+    site-of i k c = record { rule = k.1; at = c.at; goal = map-contains (λ (z : FlatComp). z.goal) k.1.comps k.2 c.comp; gives = c.gives }
 
     pub home-is : (i : Instance) (k : Computation) → computation_of j i ≡ Some k → home j i ≡ region j.flat j.nodes k.0
     home-is i k e = ap (λ x. elim x [ None ↦ 0 | Some c ↦ region j.flat j.nodes c.0 ]) e
@@ -284,7 +281,7 @@ module _ (j : Task) where
         go : (x : Option Computation) → computation_of j i ≡ x → Contains (elim x [ None ↦ [] | Some c ↦ map (instance_at j.flat c.0) (dependencies c.2) ]) d
             → (k : Computation) × (computation_of j i ≡ Some k) × IsOf i k × ((o : Occ) × Contains (dependencies k.2) o × (d ≡ instance_at j.flat k.0 o))
         go None e m = absurd (contains-nil d m)
-        go (Some k) e m = let p = map-among (instance_at j.flat k.0) (dependencies k.2) d m in (k, e, computed i k e, (p.0, p.1, sym p.2))
+        go (Some k) e m = let p = contains-map (instance_at j.flat k.0) (dependencies k.2) d m in (k, e, computed i k e, (p.0, p.1, sym p.2))
 
     pub need-order : (i d : Instance) → Contains (needs j i) d → DependsOn j.symbols j.rules j.flat i d
     need-order i d h = let p = need-depends i d h in record { node = p.0.0; rule = p.0.1; at = p.2.at; comp = p.0.2; computes = p.2.comp; gives = p.2.gives; on = p.3.0; depends = p.3.1; is = p.3.2 }
@@ -332,7 +329,7 @@ module _ (j : Task) where
             agree : (o : Occ) → Contains (reads k.2.value) o → unwrap_or (f (node_at j.flat k.0 o.occ, o.attr.0)) value.Void ≡ unwrap_or (g (node_at j.flat k.0 o.occ, o.attr.0)) value.Void
             agree o m =
                 let d : Instance = instance_at j.flat k.0 o in
-                let there : Contains (map (instance_at j.flat k.0) (dependencies k.2)) d = among-map (instance_at j.flat k.0) (dependencies k.2) o (Contains-append_left (reads k.2.value) k.2.after o m) in
+                let there : Contains (map (instance_at j.flat k.0) (dependencies k.2)) d = map-contains (instance_at j.flat k.0) (dependencies k.2) o (Contains-append_left (reads k.2.value) k.2.after o m) in
                 let need : Contains (needs j i) d = subst (λ (x : Option Computation). Contains (elim x [ None ↦ [] | Some c ↦ map (instance_at j.flat c.0) (dependencies c.2) ]) d) (sym e) there in
                 ap (λ v. unwrap_or v value.Void) (h d need)
 

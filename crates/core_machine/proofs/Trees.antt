@@ -4,6 +4,7 @@ use Rattle.std.proofs.Common.{◌≡◌, ℕ, zero, suc, ◌+◌, ◌<◌, ◌�
 use Rattle.std.proofs.lemmas.Option.{none-some}
 use Rattle.lido_base.specs.Tree.{Tree, Item, Child, Leaf, child_number, children, items_of, item_at, parent_of, place_of, contains, is_just, IsTree}
 use Rattle.lido_base.proofs.TreeLemmas.{children_behind, parent_before, both, test-contains, contains-test, is_just-some}
+use Rattle.lido_base.proofs.PathLemmas.{child_of_parent}
 use Rattle.flat_grammar.specs.WholeOrder.{child_at}
 use Rattle.flat_grammar.proofs.Lists.{held, contains-nil, contains-cons}
 use Rattle.flat_grammar.proofs.WholeOrderLemmas.{child_at-child}
@@ -12,16 +13,6 @@ number-child : {V : Type 0} (o : Option (Item V)) (c : ℕ) → option_and_then 
 number-child None c e = absurd (none-some _ e)
 number-child (Some (Child d)) c e = ap (λ n. Some (Child n)) (held e)
 number-child (Some (Leaf v)) c e = absurd (none-some _ e)
-
-listed-child : {V : Type 0} (items : List (Item V)) (c : ℕ) → Contains (filter_map child_number items) c → (k : ℕ) × (option_and_then child_number (slice_get items k) ≡ Some c)
-listed-child [] c h = absurd (contains-nil c h)
-listed-child (Child d ∷ items) c h = go (contains-cons d c (filter_map child_number items) h) (listed-child items c)
-  where
-    go : (d ≡ c) ⊎ Contains (filter_map child_number items) c → (Contains (filter_map child_number items) c → (k : ℕ) × (option_and_then child_number (slice_get items k) ≡ Some c))
-        → (k : ℕ) × (option_and_then child_number (slice_get (Child d ∷ items) k) ≡ Some c)
-    go (inl e) later = (0, ap Some e)
-    go (inr m) later = let p = later m in (suc p.0, p.1)
-listed-child (Leaf v ∷ items) c h = let p = listed-child items c h in (suc p.0, p.1)
 
 module _ {V : Type 0} (t : Tree V) (w : IsTree t) where
   pub record ChildFacts (n k c : ℕ) : Type 0 where
@@ -45,14 +36,7 @@ module _ {V : Type 0} (t : Tree V) (w : IsTree t) where
 
   -- each node but the root stands at an occurrence of its parent
   pub parent-child : (d p : ℕ) → d < length t → parent_of t d ≡ Some p → (k : ℕ) × (child_at t p (suc k) ≡ Some d)
-  parent-child d p h e = listed-child (items_of t p) d (contains-test d (children t p) (w.items_agree p d ∙ here))
-    where
-      just : (o : Option ℕ) → o ≡ Some p → is_just p o ≡ true
-      just None f = absurd (none-some _ f)
-      just (Some q) f = eq-eqb q p (held f)
-
-      here : (nat_lt d (length t) && is_just p (parent_of t d)) ≡ true
-      here = rw (lt-ltb d (length t) h) (just (parent_of t d) e)
+  parent-child d p h e = let q = child_of_parent t w d p h e in (q.0, ap (option_and_then child_number) q.1)
 
   -- d is n, or stands below it
   pub data Sub (n : ℕ) : ℕ → Type 0 where

@@ -9,6 +9,7 @@ use Rattle.std.proofs.lemmas.List.Elements.{Contains-append_left, Contains-appen
 use Rattle.lido_base.specs.declared.ids.SymId.{SymId}
 use Rattle.lido_base.specs.declared.ids.AttrId.{AttrId}
 use Rattle.lido_base.specs.Tree.{Tree, IsTree, rule_at, parent_of, place_of}
+use Rattle.lido_base.proofs.Lists.{map-contains, contains-flat, flat-contains}
 use Rattle.flat_grammar.specs.declared.flat.Occ.{Occ}
 use Rattle.flat_grammar.specs.declared.flat.FlatSymbol.{FlatSymbol}
 use Rattle.flat_grammar.specs.declared.flat.FlatAttr.{FlatAttr}
@@ -29,12 +30,12 @@ use Rattle.flat_grammar.proofs.Lists.{held, contains-nil, contains-cons, contain
 use Rattle.flat_grammar.proofs.WholeOrderLemmas.{order-step}
 use Rattle.flat_grammar.specs.Instances.{IsGrown, IsInstance, instance_at}
 use Rattle.core_machine.specs.Instances.{IsSite, DependsOn, IsInOrder}
-use Rattle.core_machine.proofs.Lists.{among-flat_map, flat_map-among, head-same, tail-same, split-append, split-at, split-among, none-split, InFirst, InSecond}
+use Rattle.core_machine.proofs.Lists.{head-same, tail-same, split-append, split-at, split-among, none-split, InFirst, InSecond}
 use Rattle.core_machine.proofs.Segments.{upto, leaves, segment-split, leaves-upto, IsStill, segment-still, Stands, in-segment, segment-in, segment-more, earlier-upto, upto-earlier}
 use Rattle.flat_grammar.proofs.SoundPlanLemmas.{at-place, at-end}
 use Rattle.core_machine.proofs.Sequences.{Made, made-behind, made-all, leaves-push}
 use Rattle.core_machine.proofs.Trees.{ChildFacts, child-facts, Sub, here, below, sub-later, sub-child, siblings}
-use Rattle.core_machine.proofs.Sites.{one-rule, is-rule, inside, one-site, child-symbol, child-of, above, among-map, AllZip-left, AllZip-right, instance-site, site-instance}
+use Rattle.core_machine.proofs.Sites.{one-rule, is-rule, inside, one-site, child-symbol, child-of, above, AllZip-left, AllZip-right, instance-site, site-instance}
 
 module _ {V : Type 0} (symbols : List FlatSymbol) (rules : List FlatRule) (shapes : List Shape) (root : SymId) (t : Tree V)
     (formed : IsWellFormed symbols rules shapes root) (grown : IsGrown symbols rules t root)
@@ -116,11 +117,11 @@ module _ {V : Type 0} (symbols : List FlatSymbol) (rules : List FlatRule) (shape
       less u = omega arith
 
   in-order : (n u : ℕ) (i : Instance) (item : PlanItem) → n < length t → Stands (seq-of n) u item → Contains (item_order t seqs (order t seqs) n item) i → Contains (order t seqs n (suc u)) i
-  in-order n u i item h s m = subst (λ l. Contains l i) (sym (order-at n u h)) (flat_map-among (item_order t seqs (order t seqs) n) (segment u (seq-of n)) item i s m)
+  in-order n u i item h s m = subst (λ l. Contains l i) (sym (order-at n u h)) (flat-contains (item_order t seqs (order t seqs) n) (segment u (seq-of n)) item i s m)
 
   from-order : (n v : ℕ) (i : Instance) → n < length t → Contains (order t seqs n v) i → (item : PlanItem) × Stands (seq-of n) (v - 1) item × Given n i item
   from-order n v i h m =
-      let p = among-flat_map (item_order t seqs (order t seqs) n) (segment (v - 1) (seq-of n)) i (subst (λ l. Contains l i) (order-step t seqs grown.tree n v h) m) in
+      let p = contains-flat (item_order t seqs (order t seqs) n) (segment (v - 1) (seq-of n)) i (subst (λ l. Contains l i) (order-step t seqs grown.tree n v h) m) in
       (p.0, p.1, given n i p.0 p.2)
 
   -- what a visit evaluates is computed at the node or below
@@ -154,7 +155,7 @@ module _ {V : Type 0} (symbols : List FlatSymbol) (rules : List FlatRule) (shape
 
   from-visit : (n u : ℕ) (i : Instance) → n < length t → Contains (order t seqs n (suc u)) i → (item : PlanItem) × Stands (seq-of n) u item × Given n i item
   from-visit n u i h m =
-      let p = among-flat_map (item_order t seqs (order t seqs) n) (segment u (seq-of n)) i (subst (λ l. Contains l i) (order-at n u h) m) in
+      let p = contains-flat (item_order t seqs (order t seqs) n) (segment u (seq-of n)) i (subst (λ l. Contains l i) (order-at n u h) m) in
       (p.0, p.1, given n i p.0 p.2)
 
   -- Along a list, behind others: each instance is new, and what it depends on stands before it.
@@ -418,7 +419,7 @@ module _ {V : Type 0} (symbols : List FlatSymbol) (rules : List FlatRule) (shape
 
         deps : (j : Instance) → Depends (inst n o) j → Contains G j
         deps j d =
-            let other : Site (inst n o) d.node d.comp.goal = record { rule = d.rule; at = d.at; goal = among-map (λ (c : FlatComp). c.goal) d.rule.comps d.comp d.computes; gives = d.gives } in
+            let other : Site (inst n o) d.node d.comp.goal = record { rule = d.rule; at = d.at; goal = map-contains (λ (c : FlatComp). c.goal) d.rule.comps d.comp d.computes; gives = d.gives } in
             let same = one-site symbols rules shapes root t formed grown bare (inst n o) n d.node o d.comp.goal site other in
             let rules-same : d.rule ≡ r = one-rule symbols rules shapes root t formed grown bare n d.rule r (subst (λ m. HasRule rules t m d.rule) (sym same.0) d.at) at in
             let computes : Contains r.comps d.comp = subst (λ (x : FlatRule). Contains x.comps d.comp) rules-same d.computes in
@@ -496,7 +497,7 @@ module _ {V : Type 0} (symbols : List FlatSymbol) (rules : List FlatRule) (shape
   root-bare r at (suc v) class a (s, row, e, f, g) m =
       let left : s ≡ root = sym (held e) ∙ root-rule r at in
       let x = AllZip-left IsRow symbols visits s.0 row plan.0.0 f in
-      let among : Contains (of_kind Inherited row) a = flat_map-among (λ (c : VisitClass). c.inherited) row class a (contains-slice_get row v class g) m in
+      let among : Contains (of_kind Inherited row) a = flat-contains (λ (c : VisitClass). c.inherited) row class a (contains-slice_get row v class g) m in
       let attr : IsAttribute x.0 Inherited a = (x.2.attributes Inherited a).0 among in
       let at-root : attribute_at symbols root a ≡ Some attr.0 = ap (λ (z : SymId). attribute_at symbols z a) (sym left) ∙ (ap (λ o. option_and_then (λ (y : FlatSymbol). slice_get y.attrs a.0) o) x.1 ∙ attr.1) in
       true-false (is_synthesized attr.0.kind) (bare a attr.0 at-root) (ap is_synthesized attr.2)
@@ -541,7 +542,7 @@ module _ {V : Type 0} (symbols : List FlatSymbol) (rules : List FlatRule) (shape
   reached fuel zero u r row i l at e h m =
       let same : unwrap_or (slice_get visits root.0) [] ≡ row = ap (λ (s : SymId). unwrap_or (slice_get visits s.0) []) (sym (root-rule r at)) ∙ ap (λ o. unwrap_or o []) e in
       let size = ap length same in
-      flat_map-among (order t seqs 0) (range_with_len 1 (length (unwrap_or (slice_get visits root.0) []))) (suc u) i
+      flat-contains (order t seqs 0) (range_with_len 1 (length (unwrap_or (slice_get visits root.0) []))) (suc u) i
       (subst (λ z. Contains (range_with_len 1 (length (unwrap_or (slice_get visits root.0) []))) z) (let f : 1 + u ≡ suc u = omega arith in f) (in-range _ 1 u (omega arith))) m
   reached zero (suc n) u r row i l at e h m = absurd (omega arith)
   reached (suc fuel) (suc n) u r row i l at e h m =
@@ -571,7 +572,7 @@ module _ {V : Type 0} (symbols : List FlatSymbol) (rules : List FlatRule) (shape
 
   only-instances : (i : Instance) → Contains (whole_order t seqs visits root) i → IsInstance symbols rules t i
   only-instances i m =
-      let p = among-flat_map (order t seqs 0) (range_with_len 1 (length (unwrap_or (slice_get visits root.0) []))) i m in
+      let p = contains-flat (order t seqs 0) (range_with_len 1 (length (unwrap_or (slice_get visits root.0) []))) i m in
       let s = sited 0 p.0 i grown.tree.has_root p.2 in
       site-instance symbols rules shapes root t formed grown bare i s.node s.goal s.site
 

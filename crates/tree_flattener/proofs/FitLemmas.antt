@@ -1,7 +1,6 @@
 -- A written tree that fits the grammar suits it.
-use Rattle.std.specs.Prelude.{Contains, slice_get, true, false, not, IsTrue, map, is_some, option_map, filter_map, nat_eq, nat_lt, ◌||◌, ◌&&◌}
-use Rattle.std.specs.List.Sorted.{IsStrictlyIncreasing}
-use Rattle.std.proofs.Common.{◌≡◌, ℕ, zero, suc, ◌+◌, ◌<◌, List, [], ◌∷◌, length, Option, Some, None, refl, ap, sym, subst, ◌∙◌, arith, get_or}
+use Rattle.std.specs.Prelude.{Contains, slice_get, true, false, not, IsTrue, is_some, option_map}
+use Rattle.std.proofs.Common.{◌≡◌, ℕ, ◌<◌, List, [], ◌∷◌, length, Some, refl, ap, sym, subst, ◌∙◌, arith, get_or}
 use Rattle.std.proofs.lemmas.Option.{slice_get-map, slice_get_within, get_or_from_slice_get}
 use Rattle.std.proofs.lemmas.List.{length-map}
 use Rattle.std.proofs.lemmas.Slice.Zip.{AllZip-long}
@@ -10,7 +9,7 @@ use Rattle.lido_base.specs.declared.value.Value.{Value}
 use Rattle.lido_base.specs.declared.value.ValueType.{ValueType}
 use Rattle.lido_base.proofs.PlainLemmas.{plain_rule, plain_items, plain_length, stored_is_tree}
 use Rattle.lido_base.specs.Plain.{Plain, plain, plain_item, plain_tree}
-use Rattle.lido_base.specs.Tree.{Item, Child, Leaf, IsTree, rule_at, items_of, parent_of, place_of, children, child_number, ancestors, unroll, and_above, continues, contains, is_just}
+use Rattle.lido_base.specs.Tree.{Item, Child, Leaf, rule_at, items_of}
 use Rattle.flat_grammar.specs.declared.flat.FlatSymbol.{FlatSymbol}
 use Rattle.flat_grammar.specs.declared.flat.FlatRule.{FlatRule}
 use Rattle.flat_grammar.specs.declared.flat.Shape.{Shape}

@@ -4,7 +4,7 @@ use Rattle.std.proofs.Common.{◌≡◌, ℕ, zero, suc, ◌+◌, ◌<◌, ◌�
 use Rattle.std.proofs.lemmas.Option.{slice_get_within}
 use Rattle.lido_base.specs.declared.ids.SymId.{SymId}
 use Rattle.lido_base.specs.declared.value.Value.{Value}
-use Rattle.lido_base.specs.Tree.{Node, Item, Child, Leaf, IsTree, parent_of, line_of, column_of, items_of, rule_at, with_item, with_node, child_number, children}
+use Rattle.lido_base.specs.Tree.{Node, Item, Child, Leaf, IsTree, parent_of, line_of, column_of, items_of, rule_at, with_item, child_number, children}
 use Rattle.flat_grammar.specs.declared.flat.FlatSymbol.{FlatSymbol}
 use Rattle.flat_grammar.specs.declared.flat.FlatRule.{FlatRule}
 use Rattle.flat_grammar.specs.declared.flat.Shape.{Shape}

@@ -1,10 +1,9 @@
 -- What a table in preorder says of the node behind the first ones.
-use Rattle.std.specs.Prelude.{Contains, IsTrue, nat_eq, nat_lt, filter_map, slice_get, AllPairs}
-use Rattle.std.proofs.Common.{◌≡◌, ℕ, zero, suc, ◌<◌, ◌≤◌, ◌⊎◌, inl, inr, List, [], ◌∷◌, length, Option, Some, None, refl, ap, sym, subst, ◌∙◌, arith, add-one, eqb-true}
+use Rattle.std.specs.Prelude.{Contains, IsTrue, nat_eq, slice_get}
+use Rattle.std.proofs.Common.{◌≡◌, ℕ, zero, suc, ◌<◌, ◌≤◌, ◌⊎◌, inl, inr, [], ◌∷◌, length, Option, Some, None, refl, ap, sym, subst, ◌∙◌, arith, add-one, eqb-true}
 use Rattle.std.proofs.Math.Nat.{eq-or-lt_of_le}
-use Rattle.std.proofs.lemmas.List.Kept.{AllPairs-from_increasing}
-use Rattle.lido_base.specs.Tree.{Tree, Item, Child, Leaf, IsTree, child_number, rule_at, parent_of, place_of, items_of, children, ancestors, contains, continues, is_just}
-use Rattle.lido_base.proofs.TreeLemmas.{parent_before, ancestors-root, ancestors-child, contains-cons, contains-test, test-contains, both, either, is_just-some}
+use Rattle.lido_base.specs.Tree.{Tree, Item, Child, IsTree, rule_at, parent_of, place_of, items_of, ancestors, contains, continues}
+use Rattle.lido_base.proofs.TreeLemmas.{parent_before, ancestors-root, ancestors-child, contains-cons, contains-test, either}
 use Rattle.lido_base.proofs.PathLemmas.{child_of_parent, parent_there, with_parent_inside}
 
 pub same_child : {V : Type 0} {o : Option (Item V)} (c d : ℕ) → o ≡ Some (Child c) → o ≡ Some (Child d) → c ≡ d

@@ -1,13 +1,12 @@
 -- A flat tree stays one where its terminals are made plain, and counts the same.
-use Rattle.std.specs.Prelude.{slice_get, filter_map, map, sum_by, nat_lt, ◌&&◌}
+use Rattle.std.specs.Prelude.{map, sum_by}
 use Rattle.std.specs.List.{fold}
-use Rattle.std.specs.List.Sorted.{IsStrictlyIncreasing}
-use Rattle.std.proofs.Common.{◌≡◌, ℕ, zero, suc, ◌+◌, List, [], ◌∷◌, length, Option, Some, None, refl, ap, sym, subst, ◌∙◌, arith}
+use Rattle.std.proofs.Common.{◌≡◌, ℕ, ◌+◌, List, [], ◌∷◌, refl, ap, sym, subst, ◌∙◌, arith}
 use Rattle.lido_base.specs.declared.ids.SymId.{SymId}
 use Rattle.lido_base.specs.declared.value.Value.{Value}
 use Rattle.lido_base.proofs.PlainLemmas.{plain_rule, plain_line, plain_column, plain_items, plain_length, plain_children, plain_is_tree}
 use Rattle.lido_base.specs.Plain.{Plain, plain, plain_item, plain_tree}
-use Rattle.lido_base.specs.Tree.{Tree, Node, Item, Child, Leaf, IsTree, child_number, rule_at, parent_of, place_of, items_of, children, ancestors, and_above, unroll, contains, continues, is_just}
+use Rattle.lido_base.specs.Tree.{Tree, Node, Item, Child, Leaf, items_of, children}
 use Rattle.flat_grammar.specs.declared.flat.FlatSymbol.{FlatSymbol}
 use Rattle.flat_grammar.specs.declared.flat.FlatRule.{FlatRule}
 use Rattle.flat_grammar.specs.declared.flat.Shape.{Shape}

@@ -1,7 +1,6 @@
 -- Each flat node has a role.
 use Rattle.std.specs.Prelude.{Contains, slice_get, true, false, Bool}
-use Rattle.std.proofs.Common.{◌≡◌, ℕ, zero, suc, ◌<◌, ◌≤◌, ◌⊎◌, inl, inr, List, [], ◌∷◌, ◌++◌, length, Some, refl, ap, sym, subst, ◌∙◌, arith, append_assoc}
-use Rattle.std.proofs.Math.Nat.{eq-or-lt_of_le}
+use Rattle.std.proofs.Common.{◌≡◌, ℕ, zero, suc, ◌<◌, ◌≤◌, inl, inr, List, [], ◌∷◌, ◌++◌, length, Some, refl, sym, subst, ◌∙◌, arith, append_assoc}
 use Rattle.lido_base.specs.Tree.{Tree, Item, Child, Leaf, rule_at, items_of, children}
 use Rattle.flat_grammar.specs.declared.flat.FlatRule.{FlatRule}
 use Rattle.flat_grammar.specs.declared.flat.Shape.{Shape}
@@ -59,15 +58,18 @@ module _ {V : Type 0} (rules : List FlatRule) (shapes : List Shape) (W F : Tree 
         where
           at : (k : ℕ) → slice_get {X = Item V} (Child d ∷ Child next ∷ []) k ≡ Some (Child n) → Role n
           at zero h = (x, inl (subst (λ m. IsNodeOf rules shapes F ns m x) (same_child d n refl h) stands))
-          at (suc zero) h = (w, inr (subst (λ m. IsCellOfList rules shapes W F ns m w) (same_child next n refl h) (record {
-            shape = c.shape;
-            has_shape = c.has_shape;
-            is_list = c.is_list;
-            before = c.before ++ x ∷ [];
-            rest = xs;
-            elements = parted ∙ sym (append_assoc c.before (x ∷ []) xs);
-            cells = rest;
-          })))
+          at (suc zero) h = (
+            w,
+            inr (subst (λ m. IsCellOfList rules shapes W F ns m w) (same_child next n refl h) (record {
+              shape = c.shape;
+              has_shape = c.has_shape;
+              is_list = c.is_list;
+              before = c.before ++ x ∷ [];
+              rest = xs;
+              elements = parted ∙ sym (append_assoc c.before (x ∷ []) xs);
+              cells = rest;
+            })),
+          )
           at (suc (suc k)) h = cc
 
   role_by : (k n : ℕ) → n ≤ k → n < length F → Role n

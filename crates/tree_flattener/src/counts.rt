@@ -41,7 +41,10 @@ fn parts(value: &FlatExpr) -> (u64, &[FlatExpr])
     ensures lighter { weight value.now ≡ suc (sum_by weight result.1.now) }
 {
     match value {
-        FlatExpr::Value(_) | FlatExpr::Terminal(_) | FlatExpr::Read(_) | FlatExpr::Coord(_) => (0, &[]),
+        FlatExpr::Value(_) | FlatExpr::Terminal(_) | FlatExpr::Read(_) | FlatExpr::Coord(_) => (
+            0,
+            &[],
+        ),
         FlatExpr::Apply { op, args, .. } => {
             let args = args.as_slice();
             (op_cells(*op, args.len()), args)

@@ -47,7 +47,9 @@ pub fn add(
         → IsPlaced W draft.new.flat draft.new.node_of) }
     ensures same { draft.new.flat_of ≡ draft.old.flat_of }
 {
-    let number = draft.flat.add_node(rule, Some(NodeId(parent)), line, column)?;
+    let number = draft
+        .flat
+        .add_node(rule, Some(NodeId(parent)), line, column)?;
     draft.node_of.push(of)?;
     Ok(number.0)
 }

@@ -1,13 +1,12 @@
 -- What the next byte makes of the coordinates behind a name.
-use Rattle.std.proofs.Common.{◌≡◌, ◌≢◌, ℕ, ◌+◌, ◌-◌, ◌*◌, ◌<◌, ◌≤◌, ◌↔◌, ◌⊎◌, inl, inr, Bool, true, false, List, [], ◌∷◌, length, Some, None, Option, refl, ap, sym, ◌∙◌, subst, arith, suc, zero}
+use Rattle.std.proofs.Common.{◌≡◌, ◌≢◌, ℕ, ◌+◌, ◌-◌, ◌*◌, ◌<◌, ◌≤◌, ◌↔◌, ◌⊎◌, inl, inr, true, false, List, ◌∷◌, length, Some, None, refl, ap, sym, ◌∙◌, subst, arith}
 use Rattle.std.specs.List.{take_while}
 use Rattle.lido_lexer.proofs.Lists.{head_of, tail_of}
-use Rattle.sum_trees.specs.Bytes.{is_white, is_digit, behind, said_after}
+use Rattle.sum_trees.specs.Bytes.{is_white, is_digit, said_after}
 use Rattle.sum_trees.proofs.Said.{said_grows}
 use Rattle.sum_trees.proofs.FrontsOfBytes.{behind_skip, behind_stop, taken_more, taken_none}
 use Rattle.tree_reader.specs.Language.{AreCoordinates, IsNumber, Spells}
 use Rattle.tree_reader.specs.Scanning.{Begun, IsNumberAfter, IsDigitOn, IsBegunNumber}
-use Rattle.tree_reader.specs.declared.part.Coordinates.{Coordinates}
 use Rattle.tree_reader.specs.declared.part.Part.{Part}
 use Rattle.tree_reader.specs.declared.part.Part.TheVariants as part
 use Rattle.tree_reader.specs.declared.scanner.Phase.TheVariants as phase

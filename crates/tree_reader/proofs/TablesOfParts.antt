@@ -12,7 +12,6 @@ use Rattle.tree_flattener.specs.Limits.{IsRefused}
 use Rattle.flat_grammar.specs.declared.flat.FlatSymbol.{FlatSymbol}
 use Rattle.flat_grammar.specs.declared.flat.FlatRule.{FlatRule}
 use Rattle.flat_grammar.specs.declared.flat.Shape.{Shape}
-use Rattle.tree_reader.specs.Language.{Forest, none, parts_of}
 use Rattle.tree_reader.specs.Scanning.{Scanning}
 use Rattle.tree_reader.specs.Writing.{IsFirstPart}
 use Rattle.tree_reader.specs.Tables.{text_of, texts_in, part_place, begins, begun, TellsOf, IsRead, IsTable, IsTableOf}

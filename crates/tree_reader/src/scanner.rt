@@ -20,25 +20,58 @@ enum Phase {
     /// No part is begun.
     Gap,
     /// A bracket, whose name has not begun.
-    Opened { at: u32 },
+    Opened {
+        at: u32,
+    },
     /// A bracket, and letters of its name.
-    Name { at: u32, name_at: u32 },
+    Name {
+        at: u32,
+        name_at: u32,
+    },
     /// A bracket and its name, and white space behind it.
-    Named { at: u32, name_at: u32 },
+    Named {
+        at: u32,
+        name_at: u32,
+    },
     /// A bracket, its name, an @ and so many digits of the line, which write this number.
-    Line { at: u32, name_at: u32, count: u8, value: u32 },
+    Line {
+        at: u32,
+        name_at: u32,
+        count: u8,
+        value: u32,
+    },
     /// A bracket, its name, an @, the line, a colon and so many digits of the column, which write this number.
-    Column { at: u32, name_at: u32, line: u32, count: u8, value: u32 },
+    Column {
+        at: u32,
+        name_at: u32,
+        line: u32,
+        count: u8,
+        value: u32,
+    },
     /// A minus.
-    Minus { at: u32 },
+    Minus {
+        at: u32,
+    },
     /// Digits, which write this number.
-    Digits { at: u32, negative: bool, value: u64 },
+    Digits {
+        at: u32,
+        negative: bool,
+        value: u64,
+    },
     /// A double quote, and whole parts of a string.
-    Text { at: u32 },
+    Text {
+        at: u32,
+    },
     /// A backslash in a string.
-    Escape { at: u32 },
+    Escape {
+        at: u32,
+    },
     /// A backslash in a string and octal digits, which write this number; so many more may follow.
-    Octal { at: u32, count: u8, value: u8 },
+    Octal {
+        at: u32,
+        count: u8,
+        value: u8,
+    },
 }
 
 /// The parts so far, and what is known of the part that is begun.

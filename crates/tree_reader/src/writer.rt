@@ -287,9 +287,7 @@ fn write_node(
     ensures few_nodes { OnOk result (length tree.new ≤ most_nodes) }
 {
     let count = tree.len();
-    let shape = match child_shape(
-        flat, names, rows, strings, count, parent, at, name_at, name,
-    ) {
+    let shape = match child_shape(flat, names, rows, strings, count, parent, at, name_at, name) {
         Ok(shape) => shape,
         Err(e) => return Err(e),
     };
@@ -491,7 +489,9 @@ pub fn write_tree(
         let Some(parent) = current else {
             unreachable!();
         };
-        match write_part(flat, names, rows, strings, &mut tree, &mut outer, parent, part) {
+        match write_part(
+            flat, names, rows, strings, &mut tree, &mut outer, parent, part,
+        ) {
             Ok(next) => current = next,
             Err(e) => return Err(e),
         }

@@ -1,10 +1,8 @@
 -- What readers of a tree's nodes can rely on.
-use Rattle.std.specs.Prelude.{Contains, IsTrue, slice_get, IsSome}
-use Rattle.std.proofs.Common.{◌≡◌, ℕ, zero, suc, ◌+◌, ◌<◌, List, [], ◌∷◌, length, Option, Some, None, refl, ap, sym, ◌∙◌, arith, add-one}
-use Rattle.std.proofs.lemmas.Bool.{lt-ltb, eq-eqb}
-use Rattle.lido_base.specs.Tree.{Tree, Item, Child, Leaf, IsTree, child_number, parent_of, place_of, items_of, item_at, children, continues}
-use Rattle.lido_base.proofs.TreeLemmas.{children_behind, contains-test}
-use Rattle.std.specs.Prelude.{filter_map}
+use Rattle.std.specs.Prelude.{IsSome}
+use Rattle.std.proofs.Common.{◌≡◌, ℕ, zero, suc, ◌<◌, [], ◌∷◌, length, Option, Some, None, refl, sym, ◌∙◌, arith, add-one}
+use Rattle.lido_base.specs.Tree.{Tree, Item, Child, IsTree, parent_of, place_of, items_of, item_at}
+use Rattle.lido_base.proofs.TreeLemmas.{children_behind}
 use Rattle.lido_base.proofs.PathLemmas.{Contains-child, child_of_parent, parent_there}
 
 -- what an option that is one holds

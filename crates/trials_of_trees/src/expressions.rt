@@ -5,7 +5,9 @@ ghost use Rattle.trials_of_trees.specs.Expressions.{symbols as seven_symbols, ru
 use flat_grammar::{Flat, FlatAttr, FlatComp, FlatExpr, FlatRule, FlatSymbol, Shape};
 use lido_base::{Kind, List, Memory, Op, RuleId, SymId, Value, ValueType};
 use std::alloc::Global;
-use trials_of_grammar::parts::{computation, occurrence, one, plain_shape, rule, symbol, three, two};
+use trials_of_grammar::parts::{
+    computation, occurrence, one, plain_shape, rule, symbol, three, two,
+};
 
 /// The names of the symbols, the attributes and the rules, in the order of their ids.
 pub const NAMES: [&str; 24] = [

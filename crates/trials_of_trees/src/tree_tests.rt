@@ -5,8 +5,8 @@ use lido_base::{Many, NodeId};
 use std::alloc::Global;
 use std::test::Fail;
 use tree_reader::{scan_tree, write_tree};
-use tree_store::{Tree, TreeFault};
 use tree_store::TreeFault::{TooMany, TreeSyntax, UnknownRule, WrongChild, WrongRoot};
+use tree_store::{Tree, TreeFault};
 
 /// The example's tree.
 const WHOLE: &[u8] = b"(rTop (rAdd (rNum 3) (rNum 4)))";
@@ -125,7 +125,17 @@ const COORDINATES: [(&[u8], &[(u32, u32)], &[(u32, u32)]); 4] = [
     (
         b"(rTop@1:1 (rAdd (rNum@3:7 5) (rSum@4:2 (rNum 6) (rNum@5:9 7))))",
         &[(1, 1), (1, 1), (3, 7), (4, 2), (4, 2), (5, 9)],
-        &[(1, 1), (1, 1), (3, 7), (4, 2), (4, 2), (4, 2), (4, 2), (5, 9), (4, 2)],
+        &[
+            (1, 1),
+            (1, 1),
+            (3, 7),
+            (4, 2),
+            (4, 2),
+            (4, 2),
+            (4, 2),
+            (5, 9),
+            (4, 2),
+        ],
     ),
 ];
 
@@ -140,7 +150,11 @@ fn coordinates_are_handed_down(rt: HostRuntime) -> Result<(), Fail> {
         match read(alloc, text)? {
             Ok(trees) => {
                 crosses(&trees);
-                assert_eq!(rt; places(alloc, &trees.written)?.as_slice(), written, "at {text:?}");
+                assert_eq!(rt;
+                    places(alloc, &trees.written)?.as_slice(),
+                    written,
+                    "at {text:?}"
+                );
                 assert_eq!(rt; places(alloc, &trees.flat)?.as_slice(), flat, "at {text:?}");
             }
             Err(fault) => assert_eq!(rt; fault, WrongChild { at: 47 }, "at {text:?}"),

@@ -11,7 +11,7 @@ use lido_base::{Kind, SymId};
 use std::alloc::{AllocError, Global};
 
 /// What is peeled of a symbol.
-#[derive(Clone, Copy, Debug, PartialEq, Eq)]
+#[derive(Clone, Copy)]
 pub struct Levels {
     /// Before a visit, which is what passes in later visits.
     pub later: Bits,

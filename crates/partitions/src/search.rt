@@ -8,7 +8,7 @@ use lido_base::List;
 use std::alloc::{AllocError, Global};
 
 /// What a search knows of a vertex.
-#[derive(Clone, Copy, Debug, PartialEq, Eq)]
+#[derive(Clone, Copy)]
 pub enum Mark {
     Fresh,
     /// It stands on the path.
@@ -18,7 +18,7 @@ pub enum Mark {
 }
 
 /// A search for an order.
-#[derive(Debug, Drop)]
+#[derive(Drop)]
 struct Search {
     marks: Vec<Mark>,
     /// For each vertex, how many of its first predecessors are known to be closed.

@@ -14,7 +14,7 @@ use lido_base::{List, SymId};
 use std::alloc::{AllocError, Global};
 
 /// The visits of a symbol.
-#[derive(Debug, Drop)]
+#[derive(Drop)]
 struct SymbolParts {
     visits: List<VisitClass>,
     /// For each attribute those in later classes.
@@ -22,7 +22,7 @@ struct SymbolParts {
 }
 
 /// The visits of all symbols.
-#[derive(Debug, Drop)]
+#[derive(Drop)]
 pub struct AllParts {
     pub visits: List<List<VisitClass>>,
     /// For each symbol and attribute the attributes in later classes.

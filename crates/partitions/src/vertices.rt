@@ -10,7 +10,7 @@ use lido_base::{AttrId, SymId};
 use std::alloc::{AllocError, Global};
 
 /// The attribute occurrences of a rule.
-#[derive(Debug, Drop)]
+#[derive(Drop)]
 pub struct Vertices {
     /// In order. A vertex has its place as its number.
     pub occs: Vec<Occ>,

@@ -20,7 +20,7 @@ pub enum CheckFault {
 }
 
 /// The first fault of a sequence.
-#[derive(Clone, Copy, Debug, PartialEq, Eq)]
+#[derive(Clone, Copy)]
 pub struct SequenceFault {
     /// The place in the sequence, from 0; the length where the end is the fault.
     pub place: u32,

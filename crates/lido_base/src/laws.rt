@@ -78,8 +78,10 @@ pub fn subtrees_stand_together<V>()
     ensures child { (t : Tree V) (p place c : ℕ) → IsTree t → item_at t p place ≡ Some (Child c)
         → (parent_of t c ≡ Some p) × (place_of t c ≡ place) × (p < c) × (c < length t) }
     ensures item { (t : Tree V) (p c : ℕ) → IsTree t → parent_of t c ≡ Some p → item_at t p (place_of t c) ≡ Some (Child c) }
-    ensures parent { (t : Tree V) (n : ℕ) → IsTree t → n + 1 < length t → (p : ℕ) × (parent_of t (n + 1) ≡ Some p) × (p < n + 1) }
-    ensures in_order { (t : Tree V) (p i j c d : ℕ) → IsTree t → item_at t p i ≡ Some (Child c) → item_at t p j ≡ Some (Child d) → i < j → c < d }
+    ensures parent { (t : Tree V) (n : ℕ) → IsTree t → n + 1 < length t
+        → (p : ℕ) × (parent_of t (n + 1) ≡ Some p) × (p < n + 1) }
+    ensures in_order { (t : Tree V) (p i j c d : ℕ) → IsTree t → item_at t p i ≡ Some (Child c)
+        → item_at t p j ≡ Some (Child d) → i < j → c < d }
     ensures whole { (t : Tree V) (n : ℕ) → IsTree t → n < length t → IsInSubtree t 0 n }
     ensures behind { (t : Tree V) (m n : ℕ) → IsTree t → IsInSubtree t m n → m ≤ n }
     ensures inner { (t : Tree V) (m q n : ℕ) → IsTree t → IsInSubtree t m q → IsInSubtree t q n → IsInSubtree t m n }

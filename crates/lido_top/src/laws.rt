@@ -15,7 +15,8 @@ ghost use Rattle.lido_top.specs.Verdict.{Decides, IsAlike, IsAnswer};
 
 /// Each tree has exactly one assignment in which each node's attribute is its sum, also where a sum leaves 64 bits.
 pub fn one_attribution()
-    ensures { (rules : List SumRule) (tree_text : List ℕ) (nodes : List TreeNode) → IsTree rules tree_text nodes → (values : List ℤ) × IsOnlyAttribution rules nodes values }
+    ensures { (rules : List SumRule) (tree_text : List ℕ) (nodes : List TreeNode) → IsTree rules tree_text nodes
+        → (values : List ℤ) × IsOnlyAttribution rules nodes values }
 {}
 
 /// The words `run` and the job with the tree of 3 and 4 call for the text `7`.
@@ -28,7 +29,8 @@ pub fn three_and_four()
 pub fn told_bytes_settle_the_answer()
     ensures { (words : List (List ℕ)) (src later : Seen) (decided : Answer) → Decides words src later decided
         → (bytes : List ℕ) → src.bytes ≡ Some bytes → (answer : Answer) → IsAnswer words bytes answer
-        → IsAlike answer decided ⊎ (((decided ≡ refusal (plainly Status.ReadFault)) × Rose src.faults later.faults) ⊎ (decided ≡ refusal no_memory)) }
+        → IsAlike answer decided
+        ⊎ (((decided ≡ refusal (plainly Status.ReadFault)) × Rose src.faults later.faults) ⊎ (decided ≡ refusal no_memory)) }
 {}
 
 /// Where a source tells its bytes, the status is the one of each answer that they and the words call for, or one of the outside.
@@ -42,11 +44,16 @@ pub fn told_bytes_settle_the_status()
 /// Each status of a fault of the outside comes only where that object's count of faults rose.
 pub fn faults_have_their_cause()
     ensures source { (words : List (List ℕ)) (src later out out_later err err_later : Seen) (decided : Answer) (s : Status)
-        → Decides words src later decided → Follows decided out out_later err err_later s → s ≡ Status.ReadFault → Rose src.faults later.faults }
-    ensures out { (words : List (List ℕ)) (src later out out_later err err_later : Seen) (decided : Answer) (s : Status) (n : ℕ)
-        → Decides words src later decided → Follows decided out out_later err err_later s → s ≡ Status.WriteFault Which.Out n → Rose out.faults out_later.faults }
-    ensures err { (words : List (List ℕ)) (src later out out_later err err_later : Seen) (decided : Answer) (s : Status) (n : ℕ)
-        → Decides words src later decided → Follows decided out out_later err err_later s → s ≡ Status.WriteFault Which.Err n → Rose err.faults err_later.faults }
+        → Decides words src later decided → Follows decided out out_later err err_later s → s ≡ Status.ReadFault
+        → Rose src.faults later.faults }
+    ensures out { (words : List (List ℕ)) (src later out out_later err err_later : Seen) (decided : Answer) (s : Status)
+        (n : ℕ)
+        → Decides words src later decided → Follows decided out out_later err err_later s → s ≡ Status.WriteFault Which.Out n
+        → Rose out.faults out_later.faults }
+    ensures err { (words : List (List ℕ)) (src later out out_later err err_later : Seen) (decided : Answer) (s : Status)
+        (n : ℕ)
+        → Decides words src later decided → Follows decided out out_later err err_later s → s ≡ Status.WriteFault Which.Err n
+        → Rose err.faults err_later.faults }
 {}
 
 /// Where the text was not written, `out` is as before.

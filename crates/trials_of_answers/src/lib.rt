@@ -18,10 +18,13 @@ ghost use Rattle.trials_of_answers.specs.Toy.{Decides, IsAlike, cycle, names, wi
 
 /// A specification with two cycles has two right answers, which are alike.
 pub fn either_cycle_is_right()
-    ensures first { Decides (codes "check" ∷ []) (seen (Some (codes "x")) 0) (seen (Some []) 0) (refusal (ending names (cycle (0 ∷ 1 ∷ 0 ∷ [])))) }
-    ensures second { Decides (codes "check" ∷ []) (seen (Some (codes "x")) 0) (seen (Some []) 0) (refusal (ending names (cycle (1 ∷ 2 ∷ 1 ∷ [])))) }
+    ensures first { Decides (codes "check" ∷ []) (seen (Some (codes "x")) 0) (seen (Some []) 0)
+        (refusal (ending names (cycle (0 ∷ 1 ∷ 0 ∷ [])))) }
+    ensures second { Decides (codes "check" ∷ []) (seen (Some (codes "x")) 0) (seen (Some []) 0)
+        (refusal (ending names (cycle (1 ∷ 2 ∷ 1 ∷ [])))) }
     ensures differ { ending names (cycle (0 ∷ 1 ∷ 0 ∷ [])) ≢ ending names (cycle (1 ∷ 2 ∷ 1 ∷ [])) }
-    ensures alike { IsAlike (refusal (ending names (cycle (0 ∷ 1 ∷ 0 ∷ [])))) (refusal (ending names (cycle (1 ∷ 2 ∷ 1 ∷ [])))) }
+    ensures alike { IsAlike (refusal (ending names (cycle (0 ∷ 1 ∷ 0 ∷ []))))
+        (refusal (ending names (cycle (1 ∷ 2 ∷ 1 ∷ [])))) }
     ensures empty { Decides (codes "check" ∷ []) (seen (Some []) 0) (seen (Some []) 0) (refusal (plainly Status.NoPtg)) }
 {}
 
@@ -35,8 +38,10 @@ pub fn names_count_by_their_texts()
 /// Messages go to `err` behind the whole text; where `err` fails there, the text stands on `out`.
 pub fn messages_stand_behind_the_text()
     ensures decided { Decides (codes "run" ∷ []) (seen (Some (codes "x")) 0) (seen (Some []) 0) with_notes }
-    ensures whole { Follows with_notes (seen (Some []) 0) (seen (Some (codes "26")) 0) (seen (Some []) 0) (seen (Some (codes "2:1 WARNING: b\n")) 0) Status.Done }
-    ensures cut { Follows with_notes (seen (Some []) 0) (seen (Some (codes "26")) 0) (seen (Some []) 0) (seen (Some (codes "2:1")) 1) (Status.WriteFault Which.Err 3) }
+    ensures whole { Follows with_notes (seen (Some []) 0) (seen (Some (codes "26")) 0)
+        (seen (Some []) 0) (seen (Some (codes "2:1 WARNING: b\n")) 0) Status.Done }
+    ensures cut { Follows with_notes (seen (Some []) 0) (seen (Some (codes "26")) 0)
+        (seen (Some []) 0) (seen (Some (codes "2:1")) 1) (Status.WriteFault Which.Err 3) }
     // not where `out` has nothing, and not without a cause
     ensures text_first { (out err later : Seen) (n : ℕ) → out.bytes ≡ Some [] → ¬ Follows with_notes out out err later (Status.WriteFault Which.Err n) }
     ensures causes { (out later err : Seen) (n : ℕ) → Follows with_notes out later err err (Status.WriteFault Which.Err n) → Rose err.faults err.faults }
@@ -58,9 +63,11 @@ pub fn a_refusal_may_have_written()
 
 /// Where `err` fails while the line of the source's fault is written, the source's count rose all the same.
 pub fn causes_stand_in_the_row()
-    ensures source { (src later : Seen) (decided : Answer) → Decides (codes "run" ∷ []) src later decided → decided.ending.status ≡ Status.ReadFault → Rose src.faults later.faults }
+    ensures source { (src later : Seen) (decided : Answer) → Decides (codes "run" ∷ []) src later decided
+        → decided.ending.status ≡ Status.ReadFault → Rose src.faults later.faults }
     ensures met { Decides (codes "run" ∷ []) (seen (Some []) 4) (seen (Some []) 5) (refusal (plainly Status.ReadFault)) }
-    ensures cut { (out : Seen) → Follows (refusal (plainly Status.ReadFault)) out out (seen (Some []) 0) (seen (Some (codes "lido")) 1) (Status.WriteFault Which.Err 4) }
+    ensures cut { (out : Seen) → Follows (refusal (plainly Status.ReadFault)) out out (seen (Some []) 0)
+        (seen (Some (codes "lido")) 1) (Status.WriteFault Which.Err 4) }
 {}
 
 #[cfg(test)]

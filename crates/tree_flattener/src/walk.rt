@@ -213,12 +213,11 @@ fn attach_element(
     let Some(rule) = element_rule(cells, symbol_of(flat, written, n)) else {
         unreachable!();
     };
-    let list = NodeId(at.node);
+    let (list, element) = (NodeId(at.node), NodeId(n));
     let (line, column) = (written.line(list), written.column(list));
+    let (own_line, own_column) = (written.line(element), written.column(element));
     let cell = add(draft, rule, at.tail, at.node, line, column)?;
-    let element = NodeId(n);
-    let (line, column) = (written.line(element), written.column(element));
-    let number = add(draft, written.rule(element), cell, n, line, column)?;
+    let number = add(draft, written.rule(element), cell, n, own_line, own_column)?;
     Ok(number)
 }
 

@@ -34,11 +34,11 @@ line-line-requires c = inside c.args.flat.now.symbols c.args.flat.now.rules c.ar
 pub column-column-requires : goal.column-column-requires
 column-column-requires c = inside c.args.flat.now.symbols c.args.flat.now.rules c.args.flat.now.shapes c.args.written.now c.args.draft.now c.args.at c.requires.walk
 
-pub line-line-requires-2 : goal.line-line-requires-2
-line-line-requires-2 c = next_inside c.args.flat.now.symbols c.args.flat.now.rules c.args.flat.now.shapes c.args.written.now c.args.draft.now c.args.at c.requires.walk c.args.n c.requires.next c.requires.child
+pub line-own_line-requires : goal.line-own_line-requires
+line-own_line-requires c = next_inside c.args.flat.now.symbols c.args.flat.now.rules c.args.flat.now.shapes c.args.written.now c.args.draft.now c.args.at c.requires.walk c.args.n c.requires.next c.requires.child
 
-pub column-column-requires-2 : goal.column-column-requires-2
-column-column-requires-2 c = next_inside c.args.flat.now.symbols c.args.flat.now.rules c.args.flat.now.shapes c.args.written.now c.args.draft.now c.args.at c.requires.walk c.args.n c.requires.next c.requires.child
+pub column-own_column-requires : goal.column-own_column-requires
+column-own_column-requires c = next_inside c.args.flat.now.symbols c.args.flat.now.rules c.args.flat.now.shapes c.args.written.now c.args.draft.now c.args.at c.requires.walk c.args.n c.requires.next c.requires.child
 
 pub returns-clause-placed : goal.returns-clause-placed
-returns-clause-placed c = c.in_ok-number.ensures.placed c.args.written.now (c.in_ok-cell.ensures.placed c.args.written.now c.requires.placed c.line-line.ensures c.column-column.ensures) c.line-line-2.ensures c.column-column-2.ensures
+returns-clause-placed c = c.in_ok-number.ensures.placed c.args.written.now (c.in_ok-cell.ensures.placed c.args.written.now c.requires.placed c.line-line.ensures c.column-column.ensures) c.line-own_line.ensures c.column-own_column.ensures

@@ -1,13 +1,13 @@
 -- What the evaluation of an expression gives stands for its plain value.
 use Rattle.std.specs.Prelude.{slice_get}
 use Rattle.std.specs.List.{AllZip}
-use Rattle.std.proofs.Common.{◌≡◌, ℕ, zero, suc, List, [], ◌∷◌, ◌++◌, Bool, true, false, Option, Some, None, refl, ap, sym, subst, ◌∙◌, append-nil, append_assoc}
+use Rattle.std.proofs.Common.{◌≡◌, ℕ, zero, suc, List, [], ◌∷◌, ◌++◌, true, false, Option, Some, None, refl, ap, sym, subst, ◌∙◌, append-nil, append_assoc}
 use Rattle.lido_base.specs.declared.value.Value.{Value}
 use Rattle.lido_base.specs.declared.value.Value.TheVariants as value
 use Rattle.lido_base.specs.declared.value.Origin.{Origin}
 use Rattle.lido_base.specs.declared.pattern.Pattern.{Pattern}
-use Rattle.lido_base.specs.Plain.{Plain, Int, Truth, Str, Text, Void, Bad, plain}
-use Rattle.lido_base.specs.Operations.{operate, unless_bad}
+use Rattle.lido_base.specs.Plain.{Plain, Int, Truth, Void, Bad, plain}
+use Rattle.lido_base.specs.Operations.{unless_bad}
 use Rattle.string_librarian.specs.Rooms.{RoomState, Deposit, HaveGrown}
 use Rattle.value_ops.specs.Outcome.{StandsFor, first_bad}
 use Rattle.value_ops.proofs.OutcomeLemmas.{bad_first, none_bad}
@@ -16,7 +16,6 @@ use Rattle.value_ops.proofs.StandsLemmas.{stands-grows, reading-of, result-stand
 use Rattle.lido_base.specs.Operations.{chosen, last}
 use Rattle.lido_base.specs.Environment.{Environment}
 use Rattle.lido_base.specs.Tree.{Tree, item_at, coordinate}
-use Rattle.flat_grammar.specs.declared.flat.Occ.{Occ}
 use Rattle.flat_grammar.specs.declared.flat.FlatExpr.{FlatExpr, Value as Constant, Terminal, Read, Coord, Apply', If', Order', Row_of-FlatExpr, end_of-FlatExpr, more_of-FlatExpr}
 use Rattle.flat_grammar.specs.FlatAttribution.{value_of, values_of, leaf_or}
 use Rattle.flat_grammar.specs.WholeOrder.{Instance}

@@ -1,15 +1,14 @@
 -- The values of the final state stand for the attribution of the flat tree.
-use Rattle.std.specs.Prelude.{find, Contains, slice_get, option_map, option_and_then, unwrap_or, if◌then◌else◌, ◌==◌}
-use Rattle.std.specs.List.{AllZip, range_with_len}
-use Rattle.std.proofs.Common.{◌≡◌, ℕ, zero, suc, ◌+◌, ◌<◌, ◌≤◌, ◌⊎◌, inl, inr, List, [], ◌∷◌, ◌++◌, length, map, fold, Bool, true, false, cond, eqb, Option, Some, None, refl, arith, ap, sym, subst, ◌∙◌, append-nil, append_assoc, eq-eqb, eqb-true}
+use Rattle.std.specs.Prelude.{find, Contains, slice_get, option_map, if◌then◌else◌, ◌==◌}
+use Rattle.std.specs.List.{range_with_len}
+use Rattle.std.proofs.Common.{◌≡◌, ℕ, zero, suc, ◌+◌, ◌<◌, List, [], ◌∷◌, ◌++◌, length, map, Bool, true, false, eqb, Option, Some, None, refl, arith, ap, sym, subst, ◌∙◌, append-nil, eq-eqb, eqb-true}
 use Rattle.std.proofs.lemmas.Option.{none-some, slice_get-map}
-use Rattle.std.proofs.lemmas.Bool.{cases_Bool}
 use Rattle.lido_base.specs.declared.value.Value.{Value}
 use Rattle.lido_base.specs.declared.value.Value.TheVariants as value
 use Rattle.lido_base.specs.declared.value.ValueType.{ValueType}
 use Rattle.lido_base.specs.declared.value.ValueType.TheVariants as type
 use Rattle.lido_base.specs.declared.pattern.Pattern.{Pattern}
-use Rattle.lido_base.specs.Plain.{Plain, Int, Truth, Str, Text, Void, Bad, plain, plain_item, plain_tree}
+use Rattle.lido_base.specs.Plain.{Plain, Text, plain, plain_item, plain_tree}
 use Rattle.lido_base.specs.Tree.{Tree, Item, Child, Leaf, item_at, items_of, contains, ancestors}
 use Rattle.lido_base.specs.Operations.{kept}
 use Rattle.string_librarian.specs.Rooms.{RoomState, Deposit, HaveGrown}
@@ -24,7 +23,7 @@ use Rattle.flat_grammar.specs.Rules.{reads, reads_of_all}
 use Rattle.flat_grammar.specs.FlatAttribution.{leaf_or, as_typed}
 use Rattle.flat_grammar.specs.WholeOrder.{Instance}
 use Rattle.flat_grammar.specs.Instances.{instance_at}
-use Rattle.flat_grammar.proofs.Lists.{held, contains-nil, contains-cons, contains-first, contains-later}
+use Rattle.flat_grammar.proofs.Lists.{held, contains-first}
 use Rattle.std.proofs.lemmas.List.Elements.{Contains-append_left, Contains-append_right}
 use Rattle.core_machine.specs.Evaluation.{leaf_value, kept_value, IsConstant, IsNoText, HasConstants, HaveConstants}
 use Rattle.lido_base.proofs.PlainLemmas.{plain_items, plain_coordinate}

@@ -1,12 +1,12 @@
 -- Each value of the final state stands, in its rooms, for what the attribution of the flat tree has.
 use Rattle.std.specs.Prelude.{Contains, slice_get, unwrap_or, IsSome}
-use Rattle.std.proofs.Common.{◌≡◌, ℕ, zero, suc, ◌+◌, ◌<◌, ◌≤◌, ◌⊎◌, inl, inr, List, [], ◌∷◌, ◌++◌, length, map, fold, Bool, true, false, eqb, cond, Option, Some, None, refl, arith, ap, sym, subst, ◌∙◌, append-nil, append_assoc, eqb-true}
+use Rattle.std.proofs.Common.{◌≡◌, ℕ, suc, ◌<◌, inl, inr, List, [], ◌∷◌, ◌++◌, length, map, fold, Bool, true, false, eqb, cond, Option, Some, None, refl, arith, ap, sym, subst, ◌∙◌, append-nil, append_assoc, eqb-true}
 use Rattle.std.proofs.lemmas.Option.{none-some}
-use Rattle.std.proofs.lemmas.List.Elements.{Contains-append_left, Contains-push_cases, All-contains}
+use Rattle.std.proofs.lemmas.List.Elements.{Contains-append_left, Contains-push_cases}
 use Rattle.lido_base.specs.declared.value.Value.{Value}
 use Rattle.lido_base.specs.declared.value.Value.TheVariants as value
 use Rattle.lido_base.specs.Plain.{Plain, Void, plain_tree}
-use Rattle.lido_base.specs.Equations.{IsSolution, value_in}
+use Rattle.lido_base.specs.Equations.{value_in}
 use Rattle.string_librarian.specs.Rooms.{RoomState, Deposit, HaveGrown}
 use Rattle.value_ops.specs.Outcome.{StandsFor}
 use Rattle.tree_store.specs.Regions.{region}
@@ -20,13 +20,13 @@ use Rattle.flat_grammar.proofs.Lists.{held, contains-nil, contains-slice_get}
 use Rattle.flat_grammar.specs.Instances.{IsInstance, instance_at}
 use Rattle.core_machine.specs.Machine.{Item, State, eval_of, put_of, after, opening, final, given}
 use Rattle.core_machine.specs.Evaluation.{evaluate, kept_value}
-use Rattle.core_machine.specs.Core.{Task, environment, IsTask, Computation, computation_of, home, needs, outcome, gives, instances_in_order, items, machine, rooms_of, IsReadAs, Reads}
+use Rattle.core_machine.specs.Core.{Task, environment, IsTask, Computation, computation_of, home, needs, outcome, instances_in_order, items, machine, rooms_of, IsReadAs, Reads}
 use Rattle.core_machine.proofs.Lists.{split-among}
 use Rattle.core_machine.proofs.Moves.{values_else, values_new}
 use Rattle.core_machine.proofs.Ends.{fold-append, fold_made}
-use Rattle.core_machine.proofs.Tasks.{IsOf, computed, computes, home-is, among-eval, eval-among}
-use Rattle.core_machine.proofs.Jobs.{grown, in-order, sound}
-use Rattle.core_machine.proofs.Only.{Ordered, all, one, meant, step, among, order, node-plain, solves, solved-by}
+use Rattle.core_machine.proofs.Tasks.{computed, computes, among-eval, eval-among}
+use Rattle.core_machine.proofs.Jobs.{grown, sound}
+use Rattle.core_machine.proofs.Only.{all, one, meant, step, among, order, node-plain, solves, solved-by}
 use Rattle.value_ops.specs.Results.{IsFamily, StandsAfter}
 use Rattle.value_ops.proofs.StandsLemmas.{stands-grows}
 use Rattle.core_machine.proofs.Expressions.{evaluate-stands}

@@ -1,35 +1,33 @@
 -- The flat tree of a job has exactly one attribution: its equations can be put in the whole order.
-use Rattle.std.specs.Prelude.{Contains, slice_get, option_and_then, option_map, IsTrue, IsSome, ◌↔◌, unwrap_or, AllPairs}
-use Rattle.std.proofs.Common.{◌≡◌, ℕ, zero, suc, ◌+◌, ◌<◌, ◌≤◌, ◌⊎◌, inl, inr, List, [], ◌∷◌, ◌++◌, length, map, Bool, true, false, Option, Some, None, refl, arith, ap, sym, subst, ◌∙◌, append_assoc, append-nil, get_or}
-use Rattle.std.proofs.lemmas.Option.{none-some, slice_get-map}
+use Rattle.std.specs.Prelude.{Contains, slice_get, option_and_then, option_map, ◌↔◌, unwrap_or, AllPairs}
+use Rattle.std.proofs.Common.{◌≡◌, ℕ, zero, suc, ◌<◌, ◌⊎◌, inl, inr, List, [], ◌∷◌, ◌++◌, Option, Some, None, refl, ap, sym, subst, ◌∙◌, append_assoc, append-nil, get_or}
+use Rattle.std.proofs.lemmas.Option.{slice_get-map}
 use Rattle.std.proofs.lemmas.Bool.{cases_order}
 use Rattle.std.proofs.lemmas.List.{get_or_default}
-use Rattle.std.proofs.lemmas.List.Elements.{Contains-append_left, Contains-append_right, Contains-append_cases, Contains-push, Contains-push_cases, All-contains}
+use Rattle.std.proofs.lemmas.List.Elements.{Contains-append_left, Contains-append_right, Contains-push, Contains-push_cases}
 use Rattle.lido_base.specs.declared.value.Value.{Value}
-use Rattle.lido_base.specs.declared.pattern.Pattern.{Pattern}
-use Rattle.lido_base.specs.declared.value.BadKind.{BadKind}
 use Rattle.lido_base.specs.Environment.{Environment}
 use Rattle.lido_base.specs.Plain.{Plain, Void, plain_item, plain_tree}
 use Rattle.lido_base.specs.Operations.{operate, unless_bad, chosen, last}
 use Rattle.lido_base.specs.Equations.{IsOrdered, IsSolution, HasOneSolution, value_in}
-use Rattle.lido_base.specs.Tree.{Tree, Item, Child, Leaf, child_number, items_of, rule_at}
+use Rattle.lido_base.specs.Tree.{Tree, Item, Child, Leaf, child_number, items_of}
 use Rattle.lido_base.proofs.EquationsLemmas.{one_solution}
 use Rattle.lido_base.proofs.Lists.{map-contains}
 use Rattle.flat_grammar.specs.declared.flat.Occ.{Occ}
 use Rattle.flat_grammar.specs.declared.flat.FlatRule.{FlatRule}
 use Rattle.flat_grammar.specs.declared.flat.FlatComp.{FlatComp}
 use Rattle.flat_grammar.specs.declared.flat.FlatExpr.{FlatExpr, Value as Constant, Terminal, Read, Coord, Apply', If', Order', Row_of-FlatExpr, end_of-FlatExpr, more_of-FlatExpr}
-use Rattle.flat_grammar.specs.Rules.{dependencies, reads, reads_of_all, HasRule}
+use Rattle.flat_grammar.specs.Rules.{reads, reads_of_all, HasRule}
 use Rattle.flat_grammar.specs.WellFormed.{attribute_of}
 use Rattle.flat_grammar.specs.FlatAttribution.{value_of, values_of, fails, as_typed, IsFlatAttribution}
 use Rattle.flat_grammar.specs.WholeOrder.{Instance, node_at, child_at}
-use Rattle.flat_grammar.proofs.Lists.{contains-nil, contains-cons, contains-first, contains-later}
-use Rattle.flat_grammar.specs.Instances.{IsGrown, IsInstance, instance_at}
+use Rattle.flat_grammar.proofs.Lists.{contains-cons, contains-first, contains-later}
+use Rattle.flat_grammar.specs.Instances.{IsInstance, instance_at}
 use Rattle.core_machine.specs.Instances.{IsSite, DependsOn, IsInOrder}
-use Rattle.core_machine.specs.Core.{Task, environment, IsTask, Computation, same_instance, computation_of, needs, instances_in_order}
+use Rattle.core_machine.specs.Core.{Task, environment, IsTask, Computation, same_instance, computation_of, instances_in_order}
 use Rattle.core_machine.proofs.Sites.{one-rule, one-site, is-rule, site-instance}
 use Rattle.lido_base.proofs.PlainLemmas.{plain_rule, plain_items}
-use Rattle.core_machine.proofs.Tasks.{IsOf, computed, computes, site-of, same-is, is-same}
+use Rattle.core_machine.proofs.Tasks.{computed, computes, site-of, same-is, is-same}
 use Rattle.core_machine.proofs.Jobs.{grown, in-order}
 
 number-plain : (texts : List (List ℕ)) (o : Option (Item Value)) → option_and_then child_number (option_map (plain_item texts) o) ≡ option_and_then child_number o

@@ -1,9 +1,7 @@
 -- What a sound visit sequence has done behind some of its items.
-use Rattle.std.specs.Prelude.{Contains, slice_get, count_by, nat_eq, sum_by}
-use Rattle.std.proofs.Common.{◌≡◌, ℕ, zero, suc, ◌+◌, ◌<◌, ◌≤◌, ◌⊎◌, inl, inr, List, [], ◌∷◌, ◌++◌, length, take, Bool, true, false, cond, Some, refl, arith, ap, sym, subst, ◌∙◌, append_assoc, append-nil, length-append, eqb-true, eq-eqb}
+use Rattle.std.specs.Prelude.{Contains, nat_eq}
+use Rattle.std.proofs.Common.{◌≡◌, ℕ, suc, ◌+◌, ◌<◌, ◌≤◌, ◌⊎◌, inl, inr, List, [], ◌∷◌, ◌++◌, Bool, true, false, cond, refl, arith, ap, sym, subst, ◌∙◌, append_assoc, append-nil, eqb-true, eq-eqb}
 use Rattle.std.proofs.lemmas.Bool.{cases_Bool, cases_lt}
-use Rattle.std.proofs.lemmas.Option.{slice_get_past}
-use Rattle.std.proofs.lemmas.List.{take_at, take_all}
 use Rattle.std.proofs.lemmas.List.Sums.{sum_by-cons, sum_by-append}
 use Rattle.std.proofs.lemmas.List.Elements.{Contains-append_left, Contains-push, Contains-push_cases, All-contains}
 use Rattle.lido_base.specs.declared.ids.AttrId.{AttrId}
@@ -13,10 +11,10 @@ use Rattle.flat_grammar.specs.declared.flat.FlatRule.{FlatRule}
 use Rattle.flat_grammar.specs.declared.plan.VisitClass.{VisitClass}
 use Rattle.flat_grammar.specs.declared.plan.PlanItem.{PlanItem}
 use Rattle.flat_grammar.specs.declared.plan.PlanItem.TheVariants.{Eval, Visit, Leave}
-use Rattle.flat_grammar.specs.SoundPlan.{is_leave, is_visit_of, IsEvaluated, IsEvaluatedAll, visits_made, segment_after, IsClassAt, Allows, AllowsNext, AllowsEnd, IsSoundSequence}
+use Rattle.flat_grammar.specs.SoundPlan.{is_leave, is_visit_of, IsEvaluated, IsEvaluatedAll, visits_made, IsClassAt, IsSoundSequence}
 use Rattle.flat_grammar.proofs.Lists.{contains-nil}
 use Rattle.flat_grammar.proofs.SoundPlanLemmas.{at-place}
-use Rattle.core_machine.proofs.Segments.{leaves, leaves-leave, Stands, in-segment, segment-more}
+use Rattle.core_machine.proofs.Segments.{leaves, Stands, in-segment, segment-more}
 
 abbrev variant : PlanItem → ℕ
 variant (Eval o) = 0

@@ -1,7 +1,7 @@
 -- Each instance of a flat tree is computed at exactly one node, by one goal of its rule.
-use Rattle.std.specs.Prelude.{Contains, slice_get, option_map, option_and_then, is_some, IsTrue, nat_eq, nat_lt, not, ◌&&◌, ◌||◌, unwrap_or, map, Any}
+use Rattle.std.specs.Prelude.{Contains, slice_get, option_and_then, is_some, IsTrue, nat_eq, not, unwrap_or, map}
 use Rattle.std.specs.List.{AllZip, list_any}
-use Rattle.std.proofs.Common.{◌≡◌, ℕ, zero, suc, ◌+◌, ◌<◌, ◌≤◌, ◌⊎◌, inl, inr, List, [], ◌∷◌, ◌++◌, length, Bool, true, false, Option, Some, None, refl, arith, ap, sym, subst, ◌∙◌, eqb-true, eq-eqb, get_or}
+use Rattle.std.proofs.Common.{◌≡◌, ℕ, zero, suc, ◌+◌, ◌<◌, ◌⊎◌, inl, inr, List, [], ◌∷◌, length, Bool, true, false, Option, Some, None, refl, arith, ap, sym, subst, ◌∙◌, eqb-true, eq-eqb, get_or}
 use Rattle.std.proofs.lemmas.Option.{none-some, slice_get_within, slice_get-get_or}
 use Rattle.std.proofs.lemmas.List.Elements.{All-contains}
 use Rattle.std.proofs.lemmas.List.Folds.{Any-from_list_any, list_any-from_Any}
@@ -9,7 +9,7 @@ use Rattle.lido_base.specs.declared.ids.SymId.{SymId}
 use Rattle.lido_base.specs.declared.ids.AttrId.{AttrId}
 use Rattle.lido_base.specs.declared.kinds.Kind.{Kind}
 use Rattle.lido_base.specs.declared.kinds.Kind.TheVariants.{Synthesized, Inherited}
-use Rattle.lido_base.specs.Tree.{Tree, Item, Child, Leaf, child_number, items_of, rule_at, parent_of, place_of, continues, IsTree}
+use Rattle.lido_base.specs.Tree.{Tree, Item, Child, Leaf, child_number, items_of, parent_of}
 use Rattle.lido_base.proofs.TreeLemmas.{both}
 use Rattle.lido_base.proofs.Lists.{contains-map, map-contains}
 use Rattle.lido_base.proofs.PathLemmas.{parent_there}
@@ -22,12 +22,11 @@ use Rattle.flat_grammar.specs.declared.flat.FlatComp.{FlatComp}
 use Rattle.flat_grammar.specs.declared.flat.Shape.{Shape}
 use Rattle.flat_grammar.specs.Rules.{symbol_at, attribute_at, attrs_of, HasRule}
 use Rattle.flat_grammar.specs.WellFormed.{IsWellFormed, IsRule, is_same_occ, is_goal, is_goal_kind, is_synthesized, attribute_of}
-use Rattle.flat_grammar.specs.SoundPlan.{goals_of}
 use Rattle.flat_grammar.specs.WholeOrder.{Instance, child_at, node_at}
-use Rattle.flat_grammar.proofs.Lists.{held, contains-nil, contains-cons, contains-first, contains-later, contains-slice_get, slice_get-contains, AllZip-at}
+use Rattle.flat_grammar.proofs.Lists.{held, contains-slice_get}
 use Rattle.flat_grammar.specs.Instances.{IsOf, IsGrown, IsInstance, instance_at}
 use Rattle.core_machine.specs.Instances.{IsSite}
-use Rattle.core_machine.proofs.Trees.{ChildFacts, child-facts, parent-child}
+use Rattle.core_machine.proofs.Trees.{child-facts, parent-child}
 
 pub AllZip-right : {A B : Type 0} (R : A → B → Type 0) (xs : List A) (ys : List B) (i : ℕ) (x : A) → AllZip R xs ys → slice_get xs i ≡ Some x → (y : B) × (slice_get ys i ≡ Some y) × R x y
 AllZip-right R [] ys i x h e = absurd (none-some _ e)

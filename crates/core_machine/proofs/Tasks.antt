@@ -1,40 +1,37 @@
 -- The machine of a job is sound.
-use Rattle.std.specs.Prelude.{Contains, slice_get, option_and_then, option_map, find, flat_map, IsTrue, nat_eq, ◌&&◌, ◌↔◌, unwrap_or, if◌then◌else◌}
+use Rattle.std.specs.Prelude.{Contains, slice_get, option_and_then, option_map, find, flat_map, nat_eq, unwrap_or, if◌then◌else◌}
 use Rattle.std.specs.List.{list_any}
-use Rattle.std.proofs.Common.{◌≡◌, ◌≢◌, ℕ, zero, suc, ◌+◌, ◌<◌, ◌≤◌, ◌⊎◌, inl, inr, List, [], ◌∷◌, ◌++◌, length, map, Bool, true, false, cond, Option, Some, None, refl, arith, ap, sym, subst, ◌∙◌, eqb-true, eq-eqb, append_assoc, append-nil}
+use Rattle.std.proofs.Common.{◌≡◌, ℕ, zero, suc, ◌⊎◌, inl, inr, List, [], ◌∷◌, ◌++◌, map, Bool, true, false, Option, Some, None, refl, ap, sym, subst, ◌∙◌, eqb-true, eq-eqb}
 use Rattle.std.proofs.lemmas.Option.{none-some}
 use Rattle.std.proofs.lemmas.Bool.{cases_Bool}
-use Rattle.std.proofs.lemmas.List.Elements.{Contains-append_left, Contains-append_right, Contains-append_cases, Contains-push}
-use Rattle.lido_base.specs.declared.ids.SymId.{SymId}
-use Rattle.lido_base.specs.declared.ids.AttrId.{AttrId}
+use Rattle.std.proofs.lemmas.List.Elements.{Contains-append_left, Contains-append_right}
 use Rattle.lido_base.specs.declared.value.Value.{Value}
 use Rattle.lido_base.specs.declared.value.Value.TheVariants as value
 use Rattle.lido_base.specs.declared.pattern.Pattern.{Pattern}
 use Rattle.lido_base.specs.Tree.{Tree, rule_at, parent_of, place_of, contains, ancestors, IsTree}
-use Rattle.lido_base.proofs.TreeLemmas.{both, ancestors-child, contains-test, test-contains}
+use Rattle.lido_base.proofs.TreeLemmas.{both, ancestors-child}
 use Rattle.string_librarian.specs.Rooms.{Deposit}
 use Rattle.tree_store.specs.Regions.{region, number_found}
 use Rattle.lido_base.proofs.Lists.{contains-map, map-contains, contains-flat, flat-contains}
 use Rattle.lido_base.proofs.PathLemmas.{with_parent_inside}
 use Rattle.flat_grammar.specs.declared.flat.Occ.{Occ}
-use Rattle.flat_grammar.specs.declared.flat.FlatAttr.{FlatAttr}
 use Rattle.flat_grammar.specs.declared.flat.FlatRule.{FlatRule}
 use Rattle.flat_grammar.specs.declared.flat.FlatComp.{FlatComp}
 use Rattle.flat_grammar.specs.declared.flat.FlatExpr.{FlatExpr, Value as Constant, Terminal, Read, Coord, Apply', If', Order', Row_of-FlatExpr, end_of-FlatExpr, more_of-FlatExpr}
-use Rattle.flat_grammar.specs.Rules.{attribute_at, dependencies, reads, reads_of_all, HasRule}
+use Rattle.flat_grammar.specs.Rules.{dependencies, reads, reads_of_all, HasRule}
 use Rattle.flat_grammar.specs.WellFormed.{is_same_occ, is_synthesized, attribute_of}
 use Rattle.flat_grammar.specs.SoundPlan.{goals_of}
-use Rattle.flat_grammar.specs.WholeOrder.{Instance, node_at, child_at, whole_order}
+use Rattle.flat_grammar.specs.WholeOrder.{Instance, node_at, child_at}
 use Rattle.flat_grammar.proofs.Lists.{held, contains-nil, contains-cons, contains-first, contains-later}
 use Rattle.flat_grammar.specs.Instances.{IsGrown, IsInstance, instance_at}
 use Rattle.core_machine.specs.Instances.{IsSite, DependsOn, IsInOrder}
-use Rattle.core_machine.specs.Machine.{Item, Machine, eval_of, put_of, IsSound}
+use Rattle.core_machine.specs.Machine.{Item, eval_of, put_of, IsSound}
 use Rattle.core_machine.specs.Evaluation.{evaluate, evaluate_all, evaluate_if, evaluate_at, kept_value, decided, in_turn}
 use Rattle.value_ops.specs.Results.{result_of}
-use Rattle.core_machine.specs.Core.{Task, IsTask, Computation, same_instance, rule_of, computation_at, computation_of, home, needs, outcome, gives, instances_in_order, items_for, items, machine}
+use Rattle.core_machine.specs.Core.{Task, IsTask, Computation, same_instance, rule_of, computation_at, computation_of, home, needs, outcome, gives, instances_in_order, items_for, machine}
 use Rattle.core_machine.proofs.Lists.{head-same, tail-same, split-append, none-split, InFirst, InSecond}
 use Rattle.core_machine.proofs.Trees.{child-facts, parent-child}
-use Rattle.core_machine.proofs.Sites.{one-rule, inside, one-site, Placed, placed, instance-site, goal-any, are-same, site-instance}
+use Rattle.core_machine.proofs.Sites.{Placed, placed, instance-site, goal-any, are-same}
 
 find-is : {A : Type 0} (p : A → Bool) (xs : List A) (x : A) → find p xs ≡ Some x → Contains xs x × (p x ≡ true)
 find-is p [] x e = absurd (none-some _ e)

@@ -1,12 +1,12 @@
 -- Subtrees of a tree.
-use Rattle.std.specs.Prelude.{Contains, slice_get, option_and_then, filter_map, IsTrue, nat_lt, ◌&&◌}
-use Rattle.std.proofs.Common.{◌≡◌, ℕ, zero, suc, ◌+◌, ◌<◌, ◌≤◌, ◌⊎◌, inl, inr, List, [], ◌∷◌, length, Option, Some, None, true, refl, arith, ap, sym, subst, ◌∙◌, lt-ltb, eq-eqb}
+use Rattle.std.specs.Prelude.{slice_get, option_and_then, nat_lt}
+use Rattle.std.proofs.Common.{◌≡◌, ℕ, zero, suc, ◌<◌, ◌≤◌, length, Option, Some, None, refl, arith, ap, sym, subst, ◌∙◌}
 use Rattle.std.proofs.lemmas.Option.{none-some}
-use Rattle.lido_base.specs.Tree.{Tree, Item, Child, Leaf, child_number, children, items_of, item_at, parent_of, place_of, contains, is_just, IsTree}
-use Rattle.lido_base.proofs.TreeLemmas.{children_behind, parent_before, both, test-contains, contains-test, is_just-some}
+use Rattle.lido_base.specs.Tree.{Tree, Item, Child, Leaf, child_number, children, items_of, parent_of, place_of, is_just, IsTree}
+use Rattle.lido_base.proofs.TreeLemmas.{children_behind, parent_before, both, test-contains, is_just-some}
 use Rattle.lido_base.proofs.PathLemmas.{child_of_parent}
 use Rattle.flat_grammar.specs.WholeOrder.{child_at}
-use Rattle.flat_grammar.proofs.Lists.{held, contains-nil, contains-cons}
+use Rattle.flat_grammar.proofs.Lists.{held}
 use Rattle.flat_grammar.proofs.WholeOrderLemmas.{child_at-child}
 
 number-child : {V : Type 0} (o : Option (Item V)) (c : ℕ) → option_and_then child_number o ≡ Some c → o ≡ Some (Child c)

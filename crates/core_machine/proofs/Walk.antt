@@ -1,14 +1,13 @@
 -- Along the whole order of a sound plan each instance comes once, behind all on which it depends.
 use Rattle.std.specs.Prelude.{Contains, slice_get, flat_map, option_and_then, is_some, IsTrue, unwrap_or}
-use Rattle.std.specs.List.{AllZip, range_with_len}
+use Rattle.std.specs.List.{range_with_len}
 use Rattle.std.proofs.Common.{◌≡◌, ℕ, zero, suc, ◌+◌, ◌-◌, ◌<◌, ◌≤◌, ◌⊎◌, inl, inr, List, [], ◌∷◌, ◌++◌, length, Bool, true, false, Option, Some, None, refl, arith, ap, sym, subst, ◌∙◌, append_assoc, append-nil, eqb-true}
 use Rattle.std.proofs.lemmas.Option.{none-some, slice_get_within, slice_get-get_or}
 use Rattle.std.proofs.lemmas.Bool.{cases_lt}
-use Rattle.std.proofs.lemmas.List.Sums.{sum_by-append}
 use Rattle.std.proofs.lemmas.List.Elements.{Contains-append_left, Contains-append_right, Contains-append_cases, Contains-push, Contains-push_cases, All-contains}
 use Rattle.lido_base.specs.declared.ids.SymId.{SymId}
 use Rattle.lido_base.specs.declared.ids.AttrId.{AttrId}
-use Rattle.lido_base.specs.Tree.{Tree, IsTree, rule_at, parent_of, place_of}
+use Rattle.lido_base.specs.Tree.{Tree, place_of}
 use Rattle.lido_base.proofs.Lists.{map-contains, contains-flat, flat-contains}
 use Rattle.flat_grammar.specs.declared.flat.Occ.{Occ}
 use Rattle.flat_grammar.specs.declared.flat.FlatSymbol.{FlatSymbol}
@@ -22,9 +21,7 @@ use Rattle.flat_grammar.specs.declared.plan.PlanItem.TheVariants.{Eval, Visit, L
 use Rattle.flat_grammar.specs.Rules.{symbol_at, attribute_at, dependencies, HasRule}
 use Rattle.flat_grammar.specs.WellFormed.{IsWellFormed, is_synthesized}
 use Rattle.flat_grammar.specs.SoundPlan.{is_leave, goals_of, visits_made, segment_after, IsClassAt, IsEvaluated, IsEvaluatedAll, IsAtHand, IsSoundSequence, IsSound, IsRow, IsAttribute, of_kind}
-use Rattle.flat_grammar.specs.WellFormed.{is_nonterminal}
-use Rattle.lido_base.specs.declared.kinds.Kind.TheVariants.{Synthesized, Inherited}
-use Rattle.std.proofs.Common.{nat_eq}
+use Rattle.lido_base.specs.declared.kinds.Kind.TheVariants.{Inherited}
 use Rattle.flat_grammar.specs.WholeOrder.{Instance, segment, child_at, node_at, sequence_at, visit_order, item_order, order, whole_order}
 use Rattle.flat_grammar.proofs.Lists.{held, contains-nil, contains-cons, contains-first, contains-later, contains-slice_get, AllZip-at}
 use Rattle.flat_grammar.proofs.WholeOrderLemmas.{order-step}
@@ -34,8 +31,8 @@ use Rattle.core_machine.proofs.Lists.{head-same, tail-same, split-append, split-
 use Rattle.core_machine.proofs.Segments.{upto, leaves, segment-split, leaves-upto, IsStill, segment-still, Stands, in-segment, segment-in, segment-more, earlier-upto, upto-earlier}
 use Rattle.flat_grammar.proofs.SoundPlanLemmas.{at-place, at-end}
 use Rattle.core_machine.proofs.Sequences.{Made, made-behind, made-all, leaves-push}
-use Rattle.core_machine.proofs.Trees.{ChildFacts, child-facts, Sub, here, below, sub-later, sub-child, siblings}
-use Rattle.core_machine.proofs.Sites.{one-rule, is-rule, inside, one-site, child-symbol, child-of, above, AllZip-left, AllZip-right, instance-site, site-instance}
+use Rattle.core_machine.proofs.Trees.{child-facts, Sub, here, sub-later, sub-child, siblings}
+use Rattle.core_machine.proofs.Sites.{one-rule, is-rule, inside, one-site, child-symbol, child-of, above, AllZip-left, instance-site, site-instance}
 
 module _ {V : Type 0} (symbols : List FlatSymbol) (rules : List FlatRule) (shapes : List Shape) (root : SymId) (t : Tree V)
     (formed : IsWellFormed symbols rules shapes root) (grown : IsGrown symbols rules t root)

@@ -1,5 +1,5 @@
 -- The machine of a job: the instances of its flat tree in the whole order of its plan, with their regions, and what they give.
-use Rattle.std.specs.Prelude.{◌≡◌, ◌↔◌, ◌⊎◌, ℕ, suc, ◌+◌, ◌-◌, ◌<◌, ◌≤◌, ◌^◌, ◌==◌, ◌&&◌, Bool, true, false, IsTrue, not, List, [], ◌∷◌, ◌++◌, if◌then◌else◌, length, map, flat_map, find, Option, Some, None, option_and_then, option_map, slice_get, unwrap_or, Contains, All, AllPairs}
+use Rattle.std.specs.Prelude.{◌≡◌, ◌↔◌, ◌⊎◌, ℕ, suc, ◌-◌, ◌<◌, ◌≤◌, ◌==◌, ◌&&◌, Bool, true, List, [], ◌∷◌, if◌then◌else◌, length, map, flat_map, find, Option, Some, None, option_and_then, option_map, slice_get, unwrap_or, Contains, All, AllPairs}
 use Rattle.std.specs.List.{AllZip, range_with_len}
 use Rattle.std.specs.List.Sorted.{IsStrictlyIncreasing}
 use Rattle.lido_base.specs.declared.ids.SymId.{SymId}

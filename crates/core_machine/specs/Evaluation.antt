@@ -5,7 +5,7 @@ use Rattle.lido_base.specs.declared.value.Value.{Value}
 use Rattle.lido_base.specs.declared.value.Value.TheVariants as value
 use Rattle.lido_base.specs.declared.value.ValueType.TheVariants as type
 use Rattle.lido_base.specs.declared.pattern.Pattern.{Pattern}
-use Rattle.lido_base.specs.Tree.{Tree, Item, Child, Leaf, item_at, coordinate}
+use Rattle.lido_base.specs.Tree.{Tree, Item, Leaf, item_at, coordinate}
 use Rattle.string_librarian.specs.Rooms.{Deposit}
 use Rattle.value_ops.specs.Outcome.{first_bad}
 use Rattle.value_ops.specs.Results.{result_of}

@@ -1,0 +1,6 @@
+pub mod SplitGrammar
+pub mod SplitPlan
+pub mod SplitTrees
+pub mod SplitJob
+pub mod SplitItems
+pub mod SplitNotes

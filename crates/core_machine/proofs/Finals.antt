@@ -1,5 +1,6 @@
 -- Each value of the final state stands, in its rooms, for what the attribution of the flat tree has.
 use Rattle.std.specs.Prelude.{Contains, slice_get, unwrap_or, IsSome}
+use Rattle.std.proofs.lemmas.List.Sums.{fold-append}
 use Rattle.std.proofs.Common.{◌≡◌, ℕ, suc, ◌<◌, inl, inr, List, [], ◌∷◌, ◌++◌, length, map, fold, Bool, true, false, eqb, cond, Option, Some, None, refl, arith, ap, sym, subst, ◌∙◌, append-nil, append_assoc, eqb-true}
 use Rattle.std.proofs.lemmas.Option.{none-some}
 use Rattle.std.proofs.lemmas.List.Elements.{Contains-append_left, Contains-push_cases}
@@ -23,7 +24,7 @@ use Rattle.core_machine.specs.Evaluation.{evaluate, kept_value}
 use Rattle.core_machine.specs.Core.{Task, environment, IsTask, Computation, computation_of, home, needs, outcome, instances_in_order, items, machine, rooms_of, IsReadAs, Reads}
 use Rattle.core_machine.proofs.Lists.{split-among}
 use Rattle.core_machine.proofs.Moves.{values_else, values_new}
-use Rattle.core_machine.proofs.Ends.{fold-append, fold_made}
+use Rattle.core_machine.proofs.Ends.{fold_made}
 use Rattle.core_machine.proofs.Tasks.{computed, computes, among-eval, eval-among}
 use Rattle.core_machine.proofs.Jobs.{grown, sound}
 use Rattle.core_machine.proofs.Only.{all, one, meant, step, among, order, node-plain, solves, solved-by}

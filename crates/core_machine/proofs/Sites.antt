@@ -1,6 +1,7 @@
 -- Each instance of a flat tree is computed at exactly one node, by one goal of its rule.
 use Rattle.std.specs.Prelude.{Contains, slice_get, option_and_then, is_some, IsTrue, nat_eq, not, unwrap_or, map}
 use Rattle.std.specs.List.{AllZip, list_any}
+use Rattle.std.proofs.lemmas.Bool.{not-true}
 use Rattle.std.proofs.Common.{◌≡◌, ℕ, zero, suc, ◌+◌, ◌<◌, ◌⊎◌, inl, inr, List, [], ◌∷◌, length, Bool, true, false, Option, Some, None, refl, arith, ap, sym, subst, ◌∙◌, eqb-true, eq-eqb, get_or}
 use Rattle.std.proofs.lemmas.Option.{none-some, slice_get_within, slice_get-get_or}
 use Rattle.std.proofs.lemmas.List.Elements.{All-contains}
@@ -121,10 +122,6 @@ module _ {V : Type 0} (symbols : List FlatSymbol) (rules : List FlatRule) (shape
     pub is : attribute_at symbols rule.left (record { 0 = i.1 }) ≡ Some attr
     pub number : i.1 ≡ o.attr.0
     pub how : ((is_synthesized attr.kind ≡ true) × (o.occ ≡ 0) × (i.0 ≡ n)) ⊎ ((is_synthesized attr.kind ≡ false) × ((k : ℕ) × (o.occ ≡ suc k) × (child_at t n (suc k) ≡ Some i.0)))
-
-  not-true : (b : Bool) → not b ≡ true → b ≡ false
-  not-true true e = cc
-  not-true false e = refl
 
   -- an attribute occurrence of a node's rule is an instance
   pub occurs : (n : ℕ) (r : FlatRule) (o : Occ) (attr : FlatAttr) → HasRule rules t n r → attribute_of symbols r o ≡ Some attr → is_goal_kind o.occ (Some attr) ≡ true → Placed (instance_at t n o) n o

@@ -25,7 +25,8 @@ use Rattle.flat_grammar.proofs.Lists.{contains-cons, contains-first, contains-la
 use Rattle.flat_grammar.specs.Instances.{IsInstance, instance_at}
 use Rattle.core_machine.specs.Instances.{IsSite, DependsOn, IsInOrder}
 use Rattle.core_machine.specs.Core.{Task, environment, IsTask, Computation, same_instance, computation_of, instances_in_order}
-use Rattle.core_machine.proofs.Sites.{one-rule, one-site, is-rule, site-instance}
+use Rattle.flat_grammar.proofs.GrownLemmas.{one-rule}
+use Rattle.core_machine.proofs.Sites.{one-site, is-rule, site-instance}
 use Rattle.lido_base.proofs.PlainLemmas.{plain_rule, plain_items}
 use Rattle.core_machine.proofs.Tasks.{computed, computes, site-of, same-is, is-same}
 use Rattle.core_machine.proofs.Jobs.{grown, in-order}
@@ -171,7 +172,7 @@ module _ (j : Task) (task : IsTask j) where
           let k = computes j task (grown j task) order i is in
           let of = computed j task (grown j task) order i k.0 k.1 in
           let here = one-site j.symbols j.rules j.shapes j.root j.flat task.formed (grown j task) task.root_bare i k.0.0 n k.0.2.goal c.goal (site-of j task (grown j task) order i k.0 of) site in
-          let rule : k.0.1 ≡ r = one-rule j.symbols j.rules j.shapes j.root j.flat task.formed (grown j task) task.root_bare n k.0.1 r (subst (λ z. HasRule j.rules j.flat z k.0.1) here.0 of.at) be in
+          let rule : k.0.1 ≡ r = one-rule j.rules j.flat n k.0.1 r (subst (λ z. HasRule j.rules j.flat z k.0.1) here.0 of.at) be in
           let comp : k.0.2 ≡ c = one-comp r.comps k.0.2 c (is-rule j.symbols j.rules j.shapes j.root j.flat task.formed (grown j task) task.root_bare n r be).once (subst (λ (z : FlatRule). Contains z.comps k.0.2) rule of.comp) m here.1 in
           let found : computation_of j i ≡ Some (n, r, c) = k.1 ∙ (λ x. Some (here.0 x, rule x, comp x)) in
           let equation = s.equations i ((among i).1 is) ∙ ap (λ z. Some (meant (value_in Void step b) z)) found in

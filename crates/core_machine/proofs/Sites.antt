@@ -14,7 +14,7 @@ use Rattle.lido_base.specs.Tree.{Tree, Item, Child, Leaf, child_number, items_of
 use Rattle.lido_base.proofs.TreeLemmas.{both}
 use Rattle.lido_base.proofs.Lists.{contains-map, map-contains}
 use Rattle.lido_base.proofs.PathLemmas.{parent_there}
-use Rattle.flat_grammar.proofs.GrownLemmas.{rule-within}
+use Rattle.flat_grammar.proofs.GrownLemmas.{one-rule, rule-within}
 use Rattle.flat_grammar.specs.declared.flat.Occ.{Occ}
 use Rattle.flat_grammar.specs.declared.flat.FlatSymbol.{FlatSymbol}
 use Rattle.flat_grammar.specs.declared.flat.FlatAttr.{FlatAttr}
@@ -64,9 +64,6 @@ any-goal comps o h =
 module _ {V : Type 0} (symbols : List FlatSymbol) (rules : List FlatRule) (shapes : List Shape) (root : SymId) (t : Tree V)
     (formed : IsWellFormed symbols rules shapes root) (grown : IsGrown symbols rules t root)
     (bare : (a : AttrId) (attr : FlatAttr) → attribute_at symbols root a ≡ Some attr → is_synthesized attr.kind ≡ true) where
-  pub one-rule : (n : ℕ) (r q : FlatRule) → HasRule rules t n r → HasRule rules t n q → r ≡ q
-  one-rule n r q (i, e, f) (j, g, h) = held (sym f ∙ (ap (λ k. slice_get rules k) (held (sym e ∙ g)) ∙ h))
-
   pub is-rule : (n : ℕ) (r : FlatRule) → HasRule rules t n r → IsRule symbols r
   is-rule n r (i, e, f) = All-contains (IsRule symbols) rules r formed.each_rule (contains-slice_get rules i r f)
 
@@ -157,7 +154,7 @@ module _ {V : Type 0} (symbols : List FlatSymbol) (rules : List FlatRule) (shape
       subst (λ j. Placed j n o) (sym s.gives) (occurs n s.rule o g.0 s.at g.1 g.2)
 
   one-attr : (i : Instance) (n m : ℕ) (o p : Occ) (a : Placed i n o) (b : Placed i m p) → a.attr ≡ b.attr
-  one-attr i n m o p a b = held (sym a.is ∙ (ap (λ (r : FlatRule). attribute_at symbols r.left (record { 0 = i.1 })) (one-rule i.0 a.rule b.rule a.at b.at) ∙ b.is))
+  one-attr i n m o p a b = held (sym a.is ∙ (ap (λ (r : FlatRule). attribute_at symbols r.left (record { 0 = i.1 })) (one-rule rules t i.0 a.rule b.rule a.at b.at) ∙ b.is))
 
   true-false : (b : Bool) → b ≡ true → b ≡ false → ⊥
   true-false true e f = cc
@@ -217,7 +214,7 @@ module _ {V : Type 0} (symbols : List FlatSymbol) (rules : List FlatRule) (shape
   child-symbol n k c r q at be e =
       let f = child-facts t grown.tree n k c e in
       let z = AllZip-left (IsOf symbols rules t) r.right (items_of t n) f.place (Child c) (grown.items n r at) f.item in
-      ap (λ j. symbol_at r j) f.occ ∙ (z.1 ∙ ap Some (sym z.2.2 ∙ ap (λ (x : FlatRule). x.left) (one-rule c z.2.0 q z.2.1 be)))
+      ap (λ j. symbol_at r j) f.occ ∙ (z.1 ∙ ap Some (sym z.2.2 ∙ ap (λ (x : FlatRule). x.left) (one-rule rules t c z.2.0 q z.2.1 be)))
 
   -- each instance is computed somewhere
   pub instance-site : (i : Instance) → IsInstance symbols rules t i → (n : ℕ) × (o : Occ) × IsSite symbols rules t i n o
@@ -229,7 +226,7 @@ module _ {V : Type 0} (symbols : List FlatSymbol) (rules : List FlatRule) (shape
       up : (m : ℕ) → i.0 ≡ m → is_synthesized a.0.kind ≡ false → (n : ℕ) × (o : Occ) × IsSite symbols rules t i n o
       up zero e k =
           let root-rule = grown.root_node in
-          let same : r ≡ root-rule.0 = one-rule 0 r root-rule.0 (subst (λ n. HasRule rules t n r) e at) root-rule.1 in
+          let same : r ≡ root-rule.0 = one-rule rules t 0 r root-rule.0 (subst (λ n. HasRule rules t n r) e at) root-rule.1 in
           let left : r.left ≡ root = ap (λ (x : FlatRule). x.left) same ∙ root-rule.2 in
           absurd (true-false (is_synthesized a.0.kind) (bare (record { 0 = i.1 }) a.0 (subst (λ l. attribute_at symbols l (record { 0 = i.1 }) ≡ Some a.0) left a.1)) k)
       up (suc m) e k =

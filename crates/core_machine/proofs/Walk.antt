@@ -32,7 +32,8 @@ use Rattle.core_machine.proofs.Segments.{upto, leaves, segment-split, leaves-upt
 use Rattle.flat_grammar.proofs.SoundPlanLemmas.{at-place, at-end}
 use Rattle.core_machine.proofs.Sequences.{Made, made-behind, made-all, leaves-push}
 use Rattle.core_machine.proofs.Trees.{child-facts, Sub, here, sub-later, sub-child, siblings}
-use Rattle.core_machine.proofs.Sites.{one-rule, is-rule, inside, one-site, child-symbol, child-of, above, AllZip-left, instance-site, site-instance}
+use Rattle.flat_grammar.proofs.GrownLemmas.{one-rule}
+use Rattle.core_machine.proofs.Sites.{is-rule, inside, one-site, child-symbol, child-of, above, AllZip-left, instance-site, site-instance}
 
 module _ {V : Type 0} (symbols : List FlatSymbol) (rules : List FlatRule) (shapes : List Shape) (root : SymId) (t : Tree V)
     (formed : IsWellFormed symbols rules shapes root) (grown : IsGrown symbols rules t root)
@@ -418,7 +419,7 @@ module _ {V : Type 0} (symbols : List FlatSymbol) (rules : List FlatRule) (shape
         deps j d =
             let other : Site (inst n o) d.node d.comp.goal = record { rule = d.rule; at = d.at; goal = map-contains (λ (c : FlatComp). c.goal) d.rule.comps d.comp d.computes; gives = d.gives } in
             let same = one-site symbols rules shapes root t formed grown bare (inst n o) n d.node o d.comp.goal site other in
-            let rules-same : d.rule ≡ r = one-rule symbols rules shapes root t formed grown bare n d.rule r (subst (λ m. HasRule rules t m d.rule) (sym same.0) d.at) at in
+            let rules-same : d.rule ≡ r = one-rule rules t n d.rule r (subst (λ m. HasRule rules t m d.rule) (sym same.0) d.at) at in
             let computes : Contains r.comps d.comp = subst (λ (x : FlatRule). Contains x.comps d.comp) rules-same d.computes in
             let four = at-place symbols visits r (seq-of n) (sound-at n r at) before rest (Eval o) 4 e d.comp computes (sym same.1) in
             let hand = All-contains (IsAtHand visits r before) (dependencies d.comp) d.on four d.depends in
@@ -486,7 +487,7 @@ module _ {V : Type 0} (symbols : List FlatSymbol) (rules : List FlatRule) (shape
       (segment u (seq-of n)) (upto u (seq-of n)) s.0 H s.1 (segment-still u (seq-of n)) (leaves-upto u (seq-of n)) (enter n u q.0 H q.1 x))
 
   root-rule : (r : FlatRule) → HasRule rules t 0 r → r.left ≡ root
-  root-rule r at = let p = grown.root_node in ap (λ (x : FlatRule). x.left) (one-rule symbols rules shapes root t formed grown bare 0 r p.0 at p.1) ∙ p.2
+  root-rule r at = let p = grown.root_node in ap (λ (x : FlatRule). x.left) (one-rule rules t 0 r p.0 at p.1) ∙ p.2
 
   -- the root inherits nothing
   root-bare : (r : FlatRule) → HasRule rules t 0 r → (v : ℕ) (class : VisitClass) (a : AttrId) → IsClassAt visits r 0 v class → Contains class.inherited a → ⊥

@@ -4,7 +4,7 @@ use Rattle.lido_base.specs.declared.value.Value.{Value}
 use Rattle.lido_base.specs.Ranges.{IsInRange}
 use Rattle.boundary_table.specs.Codes.{first_word, second_word, code}
 use Rattle.boundary_table.specs.declared.plays.View.{View}
-use Rattle.boundary_table.specs.Desk.{Which, Held, Missed}
+use Rattle.boundary_table.specs.Desk.{Which, Missed}
 use Rattle.boundary_table.specs.Rule.{mem, after_load}
 use Rattle.boundary_table.proofs.Lists.{code_first, code_second, value_at, mem_more}
 

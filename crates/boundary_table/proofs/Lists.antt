@@ -8,7 +8,7 @@ use Rattle.atomic_table.proofs.Lists.{at_set, at_snoc}
 use Rattle.lido_base.specs.declared.value.Value.{Value}
 use Rattle.lido_base.specs.declared.value.Value.TheVariants.{Int, Bool as Truth, Str, Text, Void, Bad}
 use Rattle.lido_base.specs.Ranges.{IsInRange}
-use Rattle.boundary_table.specs.Codes.{first_word, second_word, codes_of, code}
+use Rattle.boundary_table.specs.Codes.{first_word, second_word, code}
 use Rattle.boundary_table.specs.Rule.{mem, owner}
 
 -- a word that is stored as it was changes nothing

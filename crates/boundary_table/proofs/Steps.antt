@@ -1,12 +1,12 @@
 -- Each step keeps the rule of numbers and owners.
-use Rattle.std.proofs.Common.{◌≡◌, ◌≢◌, ℕ, zero, suc, ◌+◌, ◌*◌, ◌<◌, ◌||◌, eqb, cond, Bool, true, false, List, [], ◌∷◌, ◌++◌, get_or, set, length, sym, refl, ap, ◌∙◌, subst, inl, inr, ◌⊎◌, ⊎_elim, arith, get_or-set_same, get_or-set_other, length-set, eq-eqb, ne_eqb}
+use Rattle.std.proofs.Common.{◌≡◌, ◌≢◌, ℕ, zero, suc, ◌+◌, ◌*◌, ◌<◌, eqb, cond, Bool, true, false, List, [], ◌∷◌, ◌++◌, get_or, set, length, sym, refl, ap, ◌∙◌, subst, inl, inr, ◌⊎◌, ⊎_elim, arith, get_or-set_same, get_or-set_other, length-set, eq-eqb, ne_eqb}
 use mathlib.Core.Logic.{dite}
 use native.Mathlib.Decide.{ℕ_discrete}
 use mathlib.Core.Option.{none, some, some-injective, some-ne-none}
 use lib.ListN.{get_elem?}
 use prog.Atomic.{either}
 use Rattle.atomic_table.proofs.Lists.{at_set, at_snoc, exchanged}
-use Rattle.atomic_table.specs.Table.{State, Me, step, keeps, stepped, Allows, Splits, Joins}
+use Rattle.atomic_table.specs.Table.{Me, step, keeps, stepped, Allows, Splits, Joins}
 use Rattle.boundary_table.specs.declared.plays.View.{View}
 use Rattle.lido_base.specs.declared.value.Value.{Value}
 use Rattle.boundary_table.specs.Codes.{code}
@@ -111,7 +111,8 @@ at_store n contents owners s id me w new desk room is own f at =
     let knows : (v : View) → Good n contents owners s.words v → v.stage ≡ 1 → (y : ℕ) → mem y v.known ≡ true → (y < n) × (get_or words y 0 ≡ code contents y) = λ v o one y h.
     let k = o.knows one y h in dite (ℕ_discrete y w) (λ e. (k.0, (value y).0 e)) (λ ne. (k.0, (value y).1 ne ∙ k.1)) in
     let good : Good n contents owners words u = record {
-      begun = g.begun; same = g.same;
+      begun = g.begun;
+      same = g.same;
       knows = λ _ y h. ⊎_elim
           (λ e. let P : ℕ → Type 0 = λ z. (z < n) × (get_or words z 0 ≡ code contents z) in subst P e (room, (value w).0 refl))
           (λ there. knows me.0 g desk y there)
@@ -125,7 +126,8 @@ at_store n contents owners s id me w new desk room is own f at =
     (λ t. let P : View → Type 0 = λ y. Good n contents owners words y in subst P t.1 good)
     (λ t.
     let o = f.good j v t.1 in record {
-      begun = o.begun; same = o.same;
+      begun = o.begun;
+      same = o.same;
       knows = knows v o;
       below = λ one k h. let b = o.below one k h in omega arith;
       stored = λ one y room' set_y mine. dite (ℕ_discrete y w)
@@ -177,7 +179,8 @@ at_hit n contents owners s id v u k desk is stage numbers known mine' contents' 
           let b = f.owned y room (λ z. set_y (value y room ∙ z)) in absurd (omega arith);
     } in
     let others : (j : ℕ) (y : View) → get_elem? s.views j ≡ some y → Good n contents owners words y = λ j y there. let o = f.good j y there in record {
-      begun = o.begun; same = o.same;
+      begun = o.begun;
+      same = o.same;
       knows = λ one z h. let t = o.knows one z h in (t.0, value z t.0 ∙ t.1);
       below = λ one z h. let b = o.below one z h in omega arith;
       stored = λ one z room set_z own. o.stored one z room (λ e. set_z (value z room ∙ e)) own;
@@ -208,7 +211,8 @@ draws n slots id me k desk none_yet s there _ at _ =
           let g = kept.2.good id me.0 at in
           let numbers : u.numbers ≡ me.0.numbers = ap (λ b. cond b (k ∷ me.0.numbers) me.0.numbers) (ne_eqb x k miss) in
           let good : Good n kept.0 kept.1 s.words u = record {
-            begun = g.begun; same = g.same;
+            begun = g.begun;
+            same = g.same;
             knows = g.knows;
             below = λ one y h. g.below one y (ap (λ l. mem y l) (sym numbers) ∙ h);
             stored = λ one y room set_y own. g.stored one y room set_y (ap (λ l. mem (owner kept.1 y) l) (sym numbers) ∙ own);
@@ -258,7 +262,8 @@ at_meet n contents owners s id v other u desk desk' two f at there =
     let both : View = joined v u in
     let G : View → Type 0 = Good n contents owners s.words in
     let good : G both = record {
-      begun = g.begun; same = g.same;
+      begun = g.begun;
+      same = g.same;
       knows = λ _ y h. ⊎_elim (g.knows desk y) (o.knows desk' y) (mem_both y v.known u.known h);
       below = λ _ k h. ⊎_elim (g.below desk k) (o.below desk' k) (mem_both k v.numbers u.numbers h);
       stored = λ _ y room set_y own. ⊎_elim

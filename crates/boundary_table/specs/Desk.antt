@@ -1,5 +1,5 @@
 -- What contracts see of a desk and of a table.
-use Rattle.std.specs.Prelude.{◌≡◌, ◌≢◌, ℕ, ◌+◌, ◌*◌, ◌<◌, ◌≤◌, Bool, true, List, [], ◌∷◌, length, slice_index, ◌⊎◌}
+use Rattle.std.specs.Prelude.{◌≡◌, ℕ, ◌+◌, ◌*◌, ◌<◌, ◌≤◌, true, List, ◌∷◌, length, slice_index, ◌⊎◌}
 use Rattle.atomic_table.specs.Seated.{TableId}
 use Rattle.lido_base.specs.declared.value.Value.{Value}
 use Rattle.boundary_table.specs.declared.plays.View.{View}

@@ -35,8 +35,7 @@ impl Boundary {
         let counter = self.table.word_count() - 1;
         let wanted = u64::from(k);
         let shared = &self.table.shared;
-        let found =
-            shared.compare_exchange::<Draw>(&mut desk.seat, counter, wanted, wanted + 1);
+        let found = shared.compare_exchange::<Draw>(&mut desk.seat, counter, wanted, wanted + 1);
         if found == wanted {
             Ok(())
         } else {

@@ -1,6 +1,4 @@
-use Rattle.std.proofs.Common.{◌≡◌, ℕ, arith, sym, ap, subst}
-use lib.ListN.{get_elem?}
-use mathlib.Core.Option.{some}
+use Rattle.std.proofs.Common.{arith, sym, ap, subst}
 use Rattle.atomic_table.specs.Table.{Splits}
 use Rattle.boundary_table.specs.declared.plays.View.{View}
 use Rattle.boundary_table.specs.Rule.{Kept, opened, spent}

@@ -1,4 +1,4 @@
-use Rattle.std.proofs.Common.{◌≡◌, arith, sym, ◌∙◌, ap}
+use Rattle.std.proofs.Common.{arith, sym, ◌∙◌, ap}
 use Rattle.boundary_table.proofs.Steps.{parts}
 use Rattle.boundary_table.proofs.desk.Boundary.copy.Goals as goal
 

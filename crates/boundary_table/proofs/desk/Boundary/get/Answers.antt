@@ -1,7 +1,7 @@
 use Rattle.boundary_table.specs.Desk.{Held, Missed}
 use Rattle.boundary_table.specs.Codes.{code}
 use Rattle.boundary_table.proofs.Gets.{missed_first, missed_second, found, got}
-use Rattle.std.proofs.Common.{subst, ◌≡◌, ◌≢◌, ◌<◌, ◌*◌, ◌+◌, length, slice_get, Some, rules, arith, sym, ◌∙◌, ap}
+use Rattle.std.proofs.Common.{subst, ◌≡◌, ◌≢◌, ◌<◌, ◌*◌, ◌+◌, length, arith, sym, ◌∙◌, ap}
 use Rattle.boundary_table.proofs.Lists.{code_nonzero}
 use Rattle.boundary_table.proofs.Steps.{loads}
 use Rattle.boundary_table.proofs.desk.Boundary.get.Goals as goal

@@ -1,4 +1,4 @@
-use Rattle.std.proofs.Common.{◌≡◌, arith, sym, ap, ◌∙◌}
+use Rattle.std.proofs.Common.{arith, sym, ap, ◌∙◌}
 use Rattle.boundary_table.proofs.Steps.{meets, learns}
 use Rattle.boundary_table.proofs.desk.Boundary.meet.Goals as goal
 

@@ -1,4 +1,4 @@
-use Rattle.std.proofs.Common.{◌≡◌, ◌<◌, ◌*◌, ◌+◌, true, length, slice_get, slice_index, Some, rules, arith, sym, ◌∙◌, ap}
+use Rattle.std.proofs.Common.{◌≡◌, ◌<◌, ◌*◌, ◌+◌, true, slice_get, slice_index, Some, arith, sym, ◌∙◌, ap}
 use Rattle.boundary_table.specs.Rule.{mem, owner}
 use Rattle.boundary_table.proofs.Lists.{code_first, code_second, some_below, owner_first, owner_second}
 use Rattle.boundary_table.proofs.Steps.{stores}

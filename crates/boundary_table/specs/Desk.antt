@@ -1,7 +1,8 @@
 -- What contracts see of a desk and of a table.
-use Rattle.std.specs.Prelude.{◌≡◌, ℕ, ◌+◌, ◌*◌, ◌<◌, ◌≤◌, true, List, ◌∷◌, length, slice_index, ◌⊎◌}
+use Rattle.std.specs.Prelude.{All, ◌≡◌, ℕ, ◌+◌, ◌*◌, ◌<◌, ◌≤◌, true, List, ◌∷◌, length, slice_index, ◌⊎◌}
 use Rattle.atomic_table.specs.Seated.{TableId}
 use Rattle.lido_base.specs.declared.value.Value.{Value}
+use Rattle.lido_base.specs.Ranges.{IsInRange}
 use Rattle.boundary_table.specs.declared.plays.View.{View}
 use Rattle.boundary_table.specs.Rule.{mem, opened, joined}
 use Rattle.boundary_table.specs.Rule.{Owns as OwnsWords}
@@ -9,6 +10,10 @@ use Rattle.boundary_table.specs.Rule.{Owns as OwnsWords}
 -- Which table it is.
 abbrev pub Which : Type 0
 Which = TableId
+
+-- The table has two words for each value, which is in range, and the counter.
+abbrev pub IsTableOf : Which → List Value → Type 0
+IsTableOf t contents = (t.words ≡ 2 * length contents + 1) × All IsInRange contents
 
 -- A desk: its table, and what it knows of it.
 pub record Held : Type 0 where

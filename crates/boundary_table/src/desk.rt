@@ -30,13 +30,12 @@ pub struct Desk {
 }
 
 impl Model for Desk {
-    ghost use Rattle.std.specs.Prelude.{◌≡◌, ◌+◌, ◌*◌, All, length, []};
-    ghost use Rattle.lido_base.specs.Ranges.{IsInRange};
-    ghost use Rattle.boundary_table.specs.Desk.{Held};
+    ghost use Rattle.std.specs.Prelude.{◌≡◌, []};
+    ghost use Rattle.boundary_table.specs.Desk.{Held, IsTableOf};
 
     ghost Value = { Held };
 
     ghost view = { λ d. record { table = d.seat.table_id; view = d.seat.me.0 } };
 
-    ghost invariant = { λ d. (d.seat.me.0.stage ≡ 1) × (d.seat.me.1 ≡ []) × (d.seat.table_id.words ≡ 2 * length d.seat.me.0.contents + 1) × All IsInRange d.seat.me.0.contents };
+    ghost invariant = { λ d. (d.seat.me.0.stage ≡ 1) × (d.seat.me.1 ≡ []) × IsTableOf d.seat.table_id d.seat.me.0.contents };
 }

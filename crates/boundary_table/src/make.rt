@@ -54,7 +54,8 @@ impl Boundary {
         desks: u32,
     ) -> Result<(Boundary, Vec<Desk>), Memory>
         requires desks { 0 < desks }
-        ensures { IfOk result (λ r. (vec_len r.1 ≡ desks) × All (λ d. d ≡ desk_of r.0 (C.contents of.now) (C.owners of.now)) r.1.items) }
+        ensures count { IfOk result (λ r. vec_len r.1 ≡ desks) }
+        ensures fresh { IfOk result (λ r. All (λ d. d ≡ desk_of r.0 (C.contents of.now) (C.owners of.now)) r.1.items) }
     {
         let code_words = 2 * of.keys() as usize;
         let words = vec![in alloc; 0u64; code_words + 1]?;

@@ -1,6 +1,7 @@
 //! Putting and getting, drawing numbers, and joining desks.
 ghost use Rattle.std.specs.Prelude.{◌≡◌, ◌≢◌, ◌<◌, [], ◌∷◌, length, slice_get, IfOk, IfErr, Some};
-ghost use Rattle.boundary_table.specs.Desk.{Knows, IsOwner, GoesOn, StoresNothing, StoresKey, Missed, FoundCounter, FindsNothing, Owns, together};
+ghost use Rattle.boundary_table.specs.Desk.{Knows, IsOwner, GoesOn, StoresNothing, StoresKey};
+ghost use Rattle.boundary_table.specs.Desk.{Missed, FoundCounter, FindsNothing, Owns, together};
 
 use crate::codes::{decode, first_word, second_word};
 use crate::desk::{Boundary, Desk};
@@ -30,7 +31,8 @@ impl Boundary {
         ensures goes_on { GoesOn desk.old desk.new }
         ensures same { FindsNothing desk.old desk.new }
         ensures drawn { IfOk result (λ _. (desk.new.view.numbers ≡ k ∷ []) × FoundCounter desk.old desk.new k) }
-        ensures taken { IfErr result (λ t. (t.wanted ≡ k) × (t.found ≢ k) × (desk.new.view.numbers ≡ []) × FoundCounter desk.old desk.new t.found) }
+        ensures taken { IfErr result (λ t. (t.wanted ≡ k) × (t.found ≢ k) × FoundCounter desk.old desk.new t.found) }
+        ensures none_still { IfErr result (λ _. desk.new.view.numbers ≡ []) }
     {
         let counter = self.table.word_count() - 1;
         let wanted = u64::from(k);

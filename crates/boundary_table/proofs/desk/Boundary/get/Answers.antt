@@ -57,5 +57,5 @@ returns-clause-value c =
     let same = ap (λ m. m.0.contents) before.0 in
     let first = found c.load-first.result _ c.if-first-eq0.false before.1 in
     let second : c.load-second.result ≡ code v.contents (2 * c.args.key + 1) = rw (← same) (found c.load-second.result _ c.if-second-eq0.false told.1) in
-    let here = got v.contents c.args.key c.load-first.result c.load-second.result c.decode.result room c.desk.invariant.3 first second c.decode.ensures in
+    let here = got v.contents c.args.key c.load-first.result c.load-second.result c.decode.result room c.desk.invariant.2.1 first second c.decode.ensures in
     rw (← contents) here

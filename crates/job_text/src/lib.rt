@@ -9,4 +9,3 @@ mod generator;
 pub use command_line::{Command, RunWords, WordsFault, words};
 pub use cutting::{CutFault, Sections, Span, cut};
 pub use generator::big;
-

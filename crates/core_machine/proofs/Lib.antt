@@ -13,3 +13,4 @@ pub mod Only
 pub mod Expressions
 pub mod FinalLemmas
 pub mod Finals
+pub mod KeyLemmas

@@ -4,3 +4,5 @@ pub mod SplitTrees
 pub mod SplitJob
 pub mod SplitItems
 pub mod SplitNotes
+pub mod TwoArguments
+pub mod OpenNodes

@@ -72,7 +72,7 @@ fn path(
     Ok(List::from_vec(vec![in alloc; first, second]?))
 }
 
-const NAMED: u32 = 6;
+const NAMED: u32 = 5;
 
 /// Faults of the specification that have names.
 fn named_case(strings: &Strings, alloc: Global, number: u32) -> Result<Case, AllocError>
@@ -113,19 +113,13 @@ fn named_case(strings: &Strings, alloc: Global, number: u32) -> Result<Case, All
             },
             b"lido: spec ClashInherited Block.v at 36 and 76\n",
         )),
-        4 => Ok(spec(
+        _ => Ok(spec(
             SpecFault::MissingComputation {
                 rule: StrId(0),
                 occ: 3,
                 attr: StrId(2),
             },
             b"lido: spec MissingComputation in Top of 3.v\n",
-        )),
-        _ => Ok(spec(
-            SpecFault::NoIncluding {
-                path: List::new(alloc),
-            },
-            b"lido: spec NoIncluding\n",
         )),
     }
 }

@@ -1,0 +1,12 @@
+pub mod Numbers
+pub mod Uses
+pub mod PlainRules
+pub mod Forced
+pub mod Needs
+pub mod Slots
+pub mod Shares
+pub mod Copies
+pub mod Flat
+pub mod KindClash
+pub mod Faults
+pub mod InForceFaults

@@ -1,0 +1,4 @@
+pub mod ItemsLemmas
+pub mod ClassLemmas
+pub mod NoFaultLemmas
+pub mod NoClashLemmas

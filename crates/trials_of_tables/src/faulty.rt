@@ -1,0 +1,44 @@
+//! Specifications with one fault each, and the place of the fault.
+ghost use Rattle.lido_base.specs.Faults.{First, AtPlace};
+ghost use Rattle.lido_syntax.specs.declared.fault.SpecFault.TheVariants as fault;
+ghost use Rattle.rule_tables.specs.Faults.{table_faults, IsDuplicate, IsRootNotOne, IsBadIndex, IsDouble, IsBadOut};
+ghost use Rattle.rule_tables.specs.KindClash.{IsKindClash};
+ghost use Rattle.trials_of_tables.specs.Faulty as specification;
+ghost use Rattle.trials_of_tables.specs.Faulty.{env};
+
+/// A place that names no symbol is the first fault of the tables.
+pub fn unknown_symbol()
+    ensures { First (table_faults specification.unknown_symbol env) (fault.UnknownSymbol 24) }
+{}
+
+/// A second rule of one name stands at its name.
+pub fn duplicate_rule()
+    ensures { AtPlace (λ at. fault.DuplicateRule at) (IsDuplicate specification.duplicate_rule env)
+        (fault.DuplicateRule 26) }
+{}
+
+/// Two nonterminals stand on no right side.
+pub fn root_not_one()
+    ensures { IsRootNotOne specification.two_roots env (fault.RootNotOne 2) }
+{}
+
+/// A class in a production stands at its name there.
+pub fn kind_clash()
+    ensures { AtPlace (λ at. fault.KindClash at) (IsKindClash specification.kind_clash env) (fault.KindClash 34) }
+{}
+
+/// A bare name without an index whose symbol stands twice in the production.
+pub fn bad_index()
+    ensures { AtPlace (λ at. fault.BadIndex at) (IsBadIndex specification.bad_index env) (fault.BadIndex 32) }
+{}
+
+/// The second computation of an attribute in a rule.
+pub fn double_computation()
+    ensures { AtPlace (λ at. fault.DoubleComputation at) (IsDouble specification.double_computation env)
+        (fault.DoubleComputation 31) }
+{}
+
+/// The second PTGOut of a rule.
+pub fn bad_out()
+    ensures { AtPlace (λ at. fault.BadOut at) (IsBadOut specification.bad_out env) (fault.BadOut 41) }
+{}

@@ -1,0 +1,14 @@
+//! The definitions of the tables of a specification, tried on small specifications.
+//!
+//! Each function does nothing; what is proved is its contract: what the definitions give, without the product's
+//! code. Nothing of the product stands on this crate.
+#![tactic(auto)]
+
+mod counted_items;
+mod faulty;
+
+pub use counted_items::{needs_of_items, shares_of_items, tables_of_items, without_faults};
+pub use faulty::{
+    bad_index, bad_out, double_computation, duplicate_rule, kind_clash, root_not_one,
+    unknown_symbol,
+};

@@ -2,3 +2,4 @@ pub mod ItemsLemmas
 pub mod ClassLemmas
 pub mod NoFaultLemmas
 pub mod NoClashLemmas
+pub mod NumberLemmas

@@ -1,22 +1,25 @@
 //! A specification with a class, a chain, a list, an INCLUDING, a CONSTITUENTS and a message.
-ghost use Rattle.std.specs.Prelude.{◌≡◌, ◌∷◌, [], ℕ, List, codes};
+ghost use Rattle.std.specs.Prelude.{◌≡◌, ◌∷◌, [], ℕ, List, codes, nat_eq};
 ghost use Rattle.lido_syntax.specs.Sets.{Sets};
 ghost use Rattle.rule_tables.specs.Copies.{message, joined, shown, constant_text};
 ghost use Rattle.rule_tables.specs.Faults.{table_faults};
 ghost use Rattle.rule_tables.specs.Needs.{Needs, NeedsIncluding, NeedsChain, IsWanted, CanReach};
+ghost use Rattle.rule_tables.specs.Numbers.{AreNumbered};
 ghost use Rattle.rule_tables.specs.PlainRules.{plain_rules};
 ghost use Rattle.rule_tables.specs.Shares.{IncludingShare, ConstituentsShare, ChainShare, Read, Copied, Comb, below_term, out_term};
 ghost use Rattle.rule_tables.specs.Slots.{Slot, Written, Inc, Con, Front, Behind};
-ghost use Rattle.rule_tables.specs.Uses.{all_includings, all_constituents};
+ghost use Rattle.rule_tables.specs.Uses.{all_includings, all_constituents, attribute_uses, symbol_uses};
 ghost use Rattle.lido_base.specs.Faults.{HasNone};
 ghost use Rattle.lido_syntax.specs.Computation.{by_rule};
-ghost use Rattle.trials_of_tables.specs.CountedItems.{spec, env, symbols, tables, cell, Top, Item, b};
+ghost use Rattle.trials_of_tables.specs.CountedItems.{spec, env, symbols, tables, cell, Top, Item, b, t};
 ghost use Rattle.trials_of_tables.specs.CountedItems.{no, pairs, sum, with_sum, item_rule, start, out, give_no};
 ghost use Rattle.trials_of_tables.specs.CountedItems.{rule_of_top, rule_of_item, rule_of_link, rule_of_end, of_top, of_item};
 
-/// The plain rules are those of the text, with the cell behind the symbols, and then the two of the cell. The text has one
+/// Symbols and attributes are numbered by the places where they first stand. The plain rules are those of the text, with the cell behind the symbols, and then the two of the cell. The text has one
 /// INCLUDING and one CONSTITUENTS.
 pub fn tables_of_items()
+    ensures numbers { AreNumbered nat_eq (symbol_uses spec env) symbols }
+    ensures attributes { AreNumbered nat_eq (attribute_uses spec) (b ∷ t ∷ no ∷ []) }
     ensures rules { plain_rules spec symbols
         ≡ rule_of_top ∷ rule_of_item ∷ rule_of_link ∷ rule_of_end ∷ [] }
     ensures includings { all_includings spec ≡ (84, pairs) ∷ [] }

@@ -15,8 +15,8 @@ ghost use Rattle.trials_of_tables.specs.CountedItems.{spec, env, symbols, tables
 ghost use Rattle.trials_of_tables.specs.CountedItems.{no, pairs, sum, with_sum, item_rule, start, out, give_no};
 ghost use Rattle.trials_of_tables.specs.CountedItems.{rule_of_top, rule_of_item, rule_of_link, rule_of_end, of_top, of_item};
 
-/// Symbols and attributes are numbered by the places where they first stand. The plain rules are those of the text, with the cell behind the symbols, and then the two of the cell. The text has one
-/// INCLUDING and one CONSTITUENTS.
+/// Symbols and attributes are numbered by the places where they first stand. The plain rules are those of the text, with
+/// the cell behind the symbols, and then the two of the cell. The text has one INCLUDING and one CONSTITUENTS.
 pub fn tables_of_items()
     ensures numbers { AreNumbered nat_eq (symbol_uses spec env) symbols }
     ensures attributes { AreNumbered nat_eq (attribute_uses spec) (b ∷ t ∷ no ∷ []) }

@@ -12,7 +12,7 @@ use Rattle.trials_of_tables.specs.CountedItems.{spec, tables, cell, Counted, Top
 inherits_counted : (s class : ℕ) → Inherits spec s class → class ≡ Counted
 inherits_counted = inherits_within spec (λ s class. class ≡ Counted) ((λ s class h k. cc), ((λ s class h k. one_of class Counted k), tt)) (λ s class above x y. y)
 
-no_top : (sets : Sets spec) (s : ℕ) → sets.inherits s Top ≡ false
+pub no_top : (sets : Sets spec) (s : ℕ) → sets.inherits s Top ≡ false
 no_top sets s = false_from (sets.inherits s Top) (λ h. let wrong : Top ≡ Counted = inherits_counted s Top ((sets.inherits_exactly s Top).0 h) in cc)
 
 pub item_needs : (sets : Sets spec) → NeedsIncluding spec (tables sets) pairs Item

@@ -3,3 +3,5 @@ pub mod ClassLemmas
 pub mod NoFaultLemmas
 pub mod NoClashLemmas
 pub mod NumberLemmas
+pub mod ForceLemmas
+pub mod TableLemmas

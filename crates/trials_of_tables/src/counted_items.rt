@@ -3,7 +3,8 @@ ghost use Rattle.std.specs.Prelude.{◌≡◌, ◌∷◌, [], ℕ, List, codes, 
 ghost use Rattle.lido_syntax.specs.Sets.{Sets};
 ghost use Rattle.rule_tables.specs.Copies.{message, joined, shown, constant_text};
 ghost use Rattle.rule_tables.specs.Faults.{table_faults};
-ghost use Rattle.rule_tables.specs.Needs.{Needs, NeedsIncluding, NeedsChain, IsWanted, CanReach};
+ghost use Rattle.rule_tables.specs.Forced.{AreForced};
+ghost use Rattle.rule_tables.specs.Needs.{rules, AreTables, Needs, NeedsIncluding, NeedsChain, IsWanted, CanReach};
 ghost use Rattle.rule_tables.specs.Numbers.{AreNumbered};
 ghost use Rattle.rule_tables.specs.PlainRules.{plain_rules};
 ghost use Rattle.rule_tables.specs.Shares.{IncludingShare, ConstituentsShare, ChainShare, Read, Copied, Comb, below_term, out_term};
@@ -62,6 +63,17 @@ pub fn shares_of_items()
         → message spec (tables sets) needs slots env item_rule rule_of_item of_item 1
         ≡ joined 6 (shown 6 (constant_text env (codes "WARNING: ")))
         (joined 6 (shown 6 (constant_text env (codes "counted"))) (shown 6 (constant_text env (10 ∷ [])))) }
+{}
+
+/// In force are the computations of the rules at their left sides, and that of the class at Item, which has none of its own. In the
+/// cell's rules nothing is.
+pub fn forced_of_items()
+    ensures { (sets : Sets spec) → AreForced spec (rules spec (tables sets)) (tables sets).forced }
+{}
+
+/// These tables are those of the specification, with one INCLUDING, one CONSTITUENTS and what is in force.
+pub fn whole_tables_of_items()
+    ensures { (sets : Sets spec) → AreTables spec (tables sets) env }
 {}
 
 /// No fault of the tables stands in it.

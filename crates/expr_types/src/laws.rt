@@ -1,0 +1,21 @@
+//! Laws of the definitions. Each function does nothing; what is proved is its contract.
+ghost use Rattle.std.specs.Prelude.{◌≡◌, ℕ, List};
+ghost use Rattle.lido_base.specs.declared.value.ValueType.{ValueType};
+ghost use Rattle.lido_base.specs.Environment.{Environment};
+ghost use Rattle.lido_syntax.specs.Computation.{Holder};
+ghost use Rattle.lido_syntax.specs.Sets.{Sets};
+ghost use Rattle.lido_syntax.specs.declared.spec.Expr.{Expr as Expression};
+ghost use Rattle.lido_syntax.specs.declared.spec.Name.{Name};
+ghost use Rattle.lido_syntax.specs.declared.spec.RuleItem.{RuleItem as Rule};
+ghost use Rattle.lido_syntax.specs.declared.spec.Spec.{Spec as Specification};
+ghost use Rattle.expr_types.specs.Typing.{IsCall, HasExprType, AreSingleTypes};
+
+/// Where attributes, terminals and chains have one type at most, an expression has one type at most in its context; and what
+/// a call gives for arguments of some types has one type.
+pub fn expressions_have_one_type()
+    ensures expression { (spec : Specification) → AreSingleTypes spec → (sets : Sets spec) (env : Environment)
+        (holder : Holder) (r : Rule) (own : ℕ) (e : Expression) (ty other : ValueType)
+        → HasExprType spec sets env holder r own e ty → HasExprType spec sets env holder r own e other → ty ≡ other }
+    ensures call { (env : Environment) (f : Name) (args : List ValueType) (ty other : ValueType)
+        → IsCall env f args ty → IsCall env f args other → ty ≡ other }
+{}

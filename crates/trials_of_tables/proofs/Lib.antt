@@ -5,3 +5,4 @@ pub mod NoClashLemmas
 pub mod NumberLemmas
 pub mod ForceLemmas
 pub mod TableLemmas
+pub mod InForceLemmas

@@ -51,7 +51,7 @@ IsFitUse _ = ⊥
 abbrev FitUses : Comp → Type 0
 FitUses c = (u : Use) → Contains (uses c) u → IsFitUse u
 
-fit_uses : (c : Comp) → InText spec c → FitUses c
+pub fit_uses : (c : Comp) → InText spec c → FitUses c
 fit_uses = in_text FitUses (every IsFitUse (uses give_t) ((λ h. cc), (refl, tt))) (every IsFitUse (uses give_b) (refl, tt)) (every IsFitUse (uses start) tt) (every IsFitUse (uses out) (refl, tt))
     (every IsFitUse (uses give_no) (refl, (refl, tt))) (every IsFitUse (uses warn) tt)
 
@@ -97,11 +97,11 @@ at_left : (kind : Kind) → IsOnSide kind (0 ∷ []) → kind ≡ Synthesized
 at_left Synthesized h = refl
 at_left Inherited h = absurd h
 
-abbrev IsOnLeft : RuleItem → Target → Type 0
+abbrev pub IsOnLeft : RuleItem → Target → Type 0
 IsOnLeft r (target.Attr (place.Named x i) b) = (kind : Kind) → IsOnSide kind (possible r x i) → kind ≡ Synthesized
 IsOnLeft r _ = Unit {0}
 
-left_targets : (r : RuleItem) → Contains spec.rules r → (c : Comp) → Contains r.body c → IsOnLeft r c.target
+pub left_targets : (r : RuleItem) → Contains spec.rules r → (c : Comp) → Contains r.body c → IsOnLeft r c.target
 left_targets = in_rules (λ r c. IsOnLeft r c.target) at_left tt tt at_left tt
 
 abbrev IsFitSide : RuleItem → Use → Type 0
@@ -115,7 +115,7 @@ fit_sides = in_rules (λ r c. (u : Use) → Contains (uses c) u → IsFitSide r 
 in_rule_text : (r : RuleItem) (c : Comp) → Contains spec.rules r → Contains r.body c → InText spec c
 in_rule_text r c m k = inl (r, m, k)
 
-of_body : (s : ℕ) (c : Comp) → InBody spec s c → InText spec c
+pub of_body : (s : ℕ) (c : Comp) → InBody spec s c → InText spec c
 of_body s c h = inr (s, h)
 
 -- kinds
@@ -123,10 +123,10 @@ of_class : (P : ℕ → Type 0) (Q : Type 0) → ((s : ℕ) → P s → Q) → (
 of_class P Q f s (inl h) = f s h
 of_class P Q f s (inr (class, h, k)) = f class k
 
-no_declaration : (s a : ℕ) (d : Decl) → IsDeclared spec s a d → ⊥
+pub no_declaration : (s a : ℕ) (d : Decl) → IsDeclared spec s a d → ⊥
 no_declaration s a d (item, m, named, k, e) = each_item (λ item. Contains item.decls d → ⊥) (λ k. omega (arith, k.1)) (λ k. omega (arith, k.1)) item m k
 
-no_kind : (d : Decl) → Contains spec.attrs d → d.kind ≡ None
+pub no_kind : (d : Decl) → Contains spec.attrs d → d.kind ≡ None
 no_kind = every (λ (d : Decl). d.kind ≡ None) spec.attrs (refl, (refl, tt))
 
 says_synthesized : (s a : ℕ) (kind : Kind) (at : ℕ) → SaysKind spec s a kind at → kind ≡ Synthesized

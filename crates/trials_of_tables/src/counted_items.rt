@@ -4,6 +4,7 @@ ghost use Rattle.lido_syntax.specs.Sets.{Sets};
 ghost use Rattle.rule_tables.specs.Copies.{message, joined, shown, constant_text};
 ghost use Rattle.rule_tables.specs.Faults.{table_faults};
 ghost use Rattle.rule_tables.specs.Forced.{AreForced};
+ghost use Rattle.rule_tables.specs.InForceFaults.{in_force_faults};
 ghost use Rattle.rule_tables.specs.Needs.{rules, AreTables, Needs, NeedsIncluding, NeedsChain, IsWanted, CanReach};
 ghost use Rattle.rule_tables.specs.Numbers.{AreNumbered};
 ghost use Rattle.rule_tables.specs.PlainRules.{plain_rules};
@@ -79,4 +80,10 @@ pub fn whole_tables_of_items()
 /// No fault of the tables stands in it.
 pub fn without_faults()
     ensures { HasNone (table_faults spec env) }
+{}
+
+/// No fault of the computations in force stands in it: no class inherits itself, no computations of two classes are left,
+/// and each attribute has a computation.
+pub fn without_in_force_faults()
+    ensures { (sets : Sets spec) → HasNone (in_force_faults spec (tables sets)) }
 {}

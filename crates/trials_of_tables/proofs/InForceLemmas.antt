@@ -85,11 +85,11 @@ of_others : (s a : ℕ) → (s ≡ Top → ⊥) → IsOf s a → a ≡ t
 of_others s a other (inl h) = absurd (other h.0)
 of_others s a other (inr h) = h.1
 
-top_has : (a : ℕ) → Has spec Top a → a ≡ b
+pub top_has : (a : ℕ) → Has spec Top a → a ≡ b
 top_has a (inl h) = of_top_alone a (named Top a h)
 top_has a (inr (class, inh, h)) = let wrong : Top ≡ Item = (heirs Top class inh).0 in cc
 
-item_has : (a : ℕ) → Has spec Item a → a ≡ t
+pub item_has : (a : ℕ) → Has spec Item a → a ≡ t
 item_has a (inl h) = of_others Item a (λ e. cc) (named Item a h)
 item_has a (inr (class, inh, h)) = of_others class a (λ e. let wrong : Counted ≡ Top = sym (heirs Item class inh).1 ∙ e in cc) (named class a h)
 
@@ -119,7 +119,7 @@ module _ (sets : Sets spec) where
   abbrev is_edge : ℕ → ℕ → Bool
   is_edge = faults.is_heir spec (tables sets)
 
-  symbol_of : (x : ℕ) (s : ℕ) → slice_get symbols x ≡ Some s → x ≡ s
+  pub symbol_of : (x : ℕ) (s : ℕ) → slice_get symbols x ≡ Some s → x ≡ s
   symbol_of zero s e = same_Some _ _ e
   symbol_of (suc zero) s e = same_Some _ _ e
   symbol_of (suc (suc zero)) s e = same_Some _ _ e

@@ -6,3 +6,4 @@ pub mod NumberLemmas
 pub mod ForceLemmas
 pub mod TableLemmas
 pub mod InForceLemmas
+pub mod SlotsOfItems

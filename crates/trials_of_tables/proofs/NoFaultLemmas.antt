@@ -151,7 +151,7 @@ pub no_duplicate : (at : ℕ) → IsDuplicate spec env at → ⊥
 no_duplicate at (faults.later i j r q h e f same g) = two_names i j r q h e f same
 
 -- RootNotOne
-its_root : IsRoot spec Top
+pub its_root : IsRoot spec Top
 its_root = (refl, (λ h. cc))
 
 no_other_root : (s : ℕ) → IsRoot spec s → s ≡ Top

@@ -15,7 +15,7 @@
 --     Item.no = Item.no + Num;
 --     message(WARNING, "counted", 0, COORDREF);
 --   END;
-use Rattle.std.specs.Prelude.{ℕ, pos, true, false, List, [], ◌∷◌, Some, None, codes}
+use Rattle.std.specs.Prelude.{ℕ, zero, suc, pos, Bool, true, false, List, [], ◌∷◌, Some, None, codes}
 use Rattle.lido_base.specs.declared.value.ValueType.TheVariants as type
 use Rattle.lido_base.specs.Environment.{Environment}
 use Rattle.lido_syntax.specs.declared.spec.Spec.{Spec}
@@ -35,6 +35,8 @@ use Rattle.lido_syntax.specs.Sets.{Sets}
 use Rattle.rule_tables.specs.PlainRules.{PlainRule, Whole, Listing, Link, End}
 use Rattle.rule_tables.specs.Forced.{Force}
 use Rattle.rule_tables.specs.Needs.{Tables}
+use Rattle.rule_tables.specs.Slots.{Slot, Written, Inc, Con, Msg, Out}
+use Rattle.rule_tables.specs.Slots as slot
 use Rattle.trials_of_tables.specs.Writing.{name, computation}
 
 -- the symbols by number, then attributes and the chain, names of rules, functions and texts
@@ -146,3 +148,16 @@ rule_of_link = record { rule = 0; role = Link Item; left = cell; right = Item �
 
 abbrev pub rule_of_end : PlainRule
 rule_of_end = record { rule = 0; role = End; left = cell; right = [] }
+
+-- the symbols below the root: Item and the cell
+abbrev pub is_below : ℕ → Bool
+is_below (suc (suc (suc zero))) = true
+is_below (suc (suc (suc (suc zero)))) = true
+is_below _ = false
+
+-- the attributes of the symbols, by number
+abbrev pub slots : ℕ → List Slot
+slots (suc (suc zero)) = Written b ∷ Out ∷ []
+slots (suc (suc (suc zero))) = Written t ∷ Inc 0 ∷ Con 4 ∷ slot.Front no ∷ slot.Behind no ∷ Msg 1 ∷ []
+slots (suc (suc (suc (suc zero)))) = Inc 0 ∷ Con 4 ∷ slot.Front no ∷ slot.Behind no ∷ []
+slots _ = []

@@ -9,11 +9,11 @@ ghost use Rattle.rule_tables.specs.Needs.{rules, AreTables, Needs, NeedsIncludin
 ghost use Rattle.rule_tables.specs.Numbers.{AreNumbered};
 ghost use Rattle.rule_tables.specs.PlainRules.{plain_rules};
 ghost use Rattle.rule_tables.specs.Shares.{IncludingShare, ConstituentsShare, ChainShare, Read, Copied, Comb, below_term, out_term};
-ghost use Rattle.rule_tables.specs.Slots.{Slot, Written, Inc, Con, Front, Behind};
+ghost use Rattle.rule_tables.specs.Slots.{Slot, Written, Inc, Con, Front, Behind, Msg, Out, AreSlots, IsBefore};
 ghost use Rattle.rule_tables.specs.Uses.{all_includings, all_constituents, attribute_uses, symbol_uses};
 ghost use Rattle.lido_base.specs.Faults.{HasNone};
 ghost use Rattle.lido_syntax.specs.Computation.{by_rule};
-ghost use Rattle.trials_of_tables.specs.CountedItems.{spec, env, symbols, tables, cell, Top, Item, b, t};
+ghost use Rattle.trials_of_tables.specs.CountedItems.{spec, env, symbols, slots, tables, cell, Top, Item, b, t};
 ghost use Rattle.trials_of_tables.specs.CountedItems.{no, pairs, sum, with_sum, item_rule, start, out, give_no};
 ghost use Rattle.trials_of_tables.specs.CountedItems.{rule_of_top, rule_of_item, rule_of_link, rule_of_end, of_top, of_item};
 
@@ -75,6 +75,14 @@ pub fn forced_of_items()
 /// These tables are those of the specification, with one INCLUDING, one CONSTITUENTS and what is in force.
 pub fn whole_tables_of_items()
     ensures { (sets : Sets spec) → AreTables spec (tables sets) env }
+{}
+
+/// The root has its attribute and the output, and Item what the class hands it, what is added, and its message. The cell has
+/// what is added alone. A message stands before the output.
+pub fn slots_of_items()
+    ensures attributes { (sets : Sets spec) (needs : Needs spec (tables sets)) → AreSlots spec (tables sets) needs slots }
+    ensures message_first { (sets : Sets spec) (needs : Needs spec (tables sets))
+        → IsBefore spec (tables sets) needs (Msg 1) Out }
 {}
 
 /// No fault of the tables stands in it.

@@ -10,6 +10,8 @@ use Rattle.lido_syntax.specs.declared.spec.Element.TheVariants.{Symbol}
 use Rattle.lido_syntax.specs.declared.spec.Target.TheVariants as target
 use Rattle.lido_syntax.specs.declared.spec.Place.TheVariants as place
 use Rattle.lido_syntax.specs.declared.spec.Expr.{Int, Terminal, Call', end_of-Expr}
+use Rattle.lido_syntax.specs.Sets.{Sets}
+use Rattle.rule_tables.specs.Needs.{Tables}
 use Rattle.trials_of_tables.specs.Writing.{name, computation}
 
 -- symbols, attributes, rules and a function
@@ -109,3 +111,17 @@ rule_of_outs = rule_at 5 r 8 S [] (first_out ∷ second_out ∷ [])
 
 abbrev pub bad_out : Spec
 bad_out = of_rules (rule_of_outs ∷ [])
+
+-- CLASS SYMBOL X INHERITS Y END; CLASS SYMBOL Y INHERITS X, Y END;
+abbrev pub lower_class : SymbolItem
+lower_class = record { at = 0; class = true; names = name 13 X ∷ []; inherits = name 24 Y ∷ []; decls = []; body = [] }
+
+abbrev pub upper_class : SymbolItem
+upper_class = record { at = 31; class = true; names = name 44 Y ∷ []; inherits = name 55 X ∷ name 58 Y ∷ []; decls = []; body = [] }
+
+abbrev pub class_cycle : Spec
+class_cycle = record { rules = []; symbols = lower_class ∷ upper_class ∷ []; attrs = []; terms = []; chains = [] }
+
+-- its symbols by number
+abbrev pub tables_of_cycle : Sets class_cycle → Tables class_cycle
+tables_of_cycle sets = record { sets = sets; symbols = X ∷ Y ∷ []; attributes = []; includings = []; constituents = []; forced = [] }

@@ -1,8 +1,13 @@
 //! Specifications with one fault each, and the place of the fault.
+ghost use Rattle.std.specs.Prelude.{nat_eq, ◌∷◌, []};
 ghost use Rattle.lido_base.specs.Faults.{First, AtPlace};
 ghost use Rattle.lido_syntax.specs.declared.fault.SpecFault.TheVariants as fault;
 ghost use Rattle.rule_tables.specs.Faults.{table_faults, IsDuplicate, IsRootNotOne, IsBadIndex, IsDouble, IsBadOut};
+ghost use Rattle.lido_syntax.specs.Sets.{Sets};
+ghost use Rattle.rule_tables.specs.InForceFaults.{in_force_faults};
 ghost use Rattle.rule_tables.specs.KindClash.{IsKindClash};
+ghost use Rattle.rule_tables.specs.Numbers.{AreNumbered};
+ghost use Rattle.rule_tables.specs.Uses.{symbol_uses};
 ghost use Rattle.trials_of_tables.specs.Faulty as specification;
 ghost use Rattle.trials_of_tables.specs.Faulty.{env};
 
@@ -41,4 +46,13 @@ pub fn double_computation()
 /// The second PTGOut of a rule.
 pub fn bad_out()
     ensures { AtPlace (λ at. fault.BadOut at) (IsBadOut specification.bad_out env) (fault.BadOut 41) }
+{}
+
+/// Of two classes that inherit each other the second inherits itself too, which is the shorter way though its number is greater.
+pub fn class_cycle()
+    ensures numbers { AreNumbered nat_eq (symbol_uses specification.class_cycle env)
+        (specification.X ∷ specification.Y ∷ []) }
+    ensures fault { (sets : Sets specification.class_cycle)
+        → First (in_force_faults specification.class_cycle (specification.tables_of_cycle sets))
+        (fault.ClassCycle (record { 0 = specification.Y } ∷ record { 0 = specification.Y } ∷ [])) }
 {}

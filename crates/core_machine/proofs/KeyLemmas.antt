@@ -16,13 +16,13 @@ use Rattle.core_machine.specs.Core.{Task, IsTask}
 use Rattle.core_machine.specs.Keys.{key_of, key_count, shared_at, IsShared}
 
 -- where a split node stands among the others
-record Placed (k : ℕ) (nodes : List ℕ) (n : ℕ) : Type 0 where
-  index : ℕ
-  number : place_from k nodes n ≡ k + index
-  inside : index < length nodes
-  there : slice_get nodes index ≡ Some n
+pub record Placed (k : ℕ) (nodes : List ℕ) (n : ℕ) : Type 0 where
+  pub index : ℕ
+  pub number : place_from k nodes n ≡ k + index
+  pub inside : index < length nodes
+  pub there : slice_get nodes index ≡ Some n
 
-place : (k : ℕ) (nodes : List ℕ) (n : ℕ) → IsTrue (contains n nodes) → Placed k nodes n
+pub place : (k : ℕ) (nodes : List ℕ) (n : ℕ) → IsTrue (contains n nodes) → Placed k nodes n
 place k [] n h = cc
 place k (m ∷ nodes) n h = go (nat_eq n m) refl (place (suc k) nodes n)
   where

@@ -14,3 +14,5 @@ pub mod Expressions
 pub mod FinalLemmas
 pub mod Finals
 pub mod KeyLemmas
+pub mod RegionWalks
+pub mod JoinedSegments

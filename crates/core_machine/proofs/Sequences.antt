@@ -34,11 +34,14 @@ visits-push done item k =
     let a = sum_by-append (λ i. cond (is_visit_of k i) 1 0) done (item ∷ []) in
     let b = sum_by-cons (λ i. cond (is_visit_of k i) 1 0) item [] in omega (arith, a, b)
 
-visits-yes : (done : List PlanItem) (item : PlanItem) (k : ℕ) → is_visit_of k item ≡ true → visits_made (done ++ item ∷ []) k ≡ visits_made done k + 1
+pub visits-yes : (done : List PlanItem) (item : PlanItem) (k : ℕ) → is_visit_of k item ≡ true → visits_made (done ++ item ∷ []) k ≡ visits_made done k + 1
 visits-yes done item k e = visits-push done item k ∙ ap (λ (z : Bool). visits_made done k + cond z 1 0) e
 
-visits-no : (done : List PlanItem) (item : PlanItem) (k : ℕ) → is_visit_of k item ≡ false → visits_made (done ++ item ∷ []) k ≡ visits_made done k
+pub visits-no : (done : List PlanItem) (item : PlanItem) (k : ℕ) → is_visit_of k item ≡ false → visits_made (done ++ item ∷ []) k ≡ visits_made done k
 visits-no done item k e = let a = visits-push done item k ∙ ap (λ (z : Bool). visits_made done k + cond z 1 0) e in omega (arith, a)
+
+pub visits-first : (item : PlanItem) (rest : List PlanItem) (k : ℕ) (b : Bool) → is_visit_of k item ≡ b → visits_made (item ∷ rest) k ≡ cond b 1 0 + visits_made rest k
+visits-first item rest k b e = sum_by-cons (λ i. cond (is_visit_of k i) 1 0) item rest ∙ ap (λ (z : Bool). cond z 1 0 + visits_made rest k) e
 
 pub leaves-push : (done : List PlanItem) (item : PlanItem) → leaves (done ++ item ∷ []) ≡ leaves done + cond (is_leave item) 1 0
 leaves-push done item =

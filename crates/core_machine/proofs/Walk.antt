@@ -40,16 +40,16 @@ module _ {V : Type 0} (symbols : List FlatSymbol) (rules : List FlatRule) (shape
     (bare : (a : AttrId) (attr : FlatAttr) → attribute_at symbols root a ≡ Some attr → is_synthesized attr.kind ≡ true)
     (visits : List (List VisitClass)) (seqs : List (List PlanItem)) (plan : IsSound symbols rules visits seqs) where
   -- the instance at an occurrence of a node's rule
-  abbrev inst : ℕ → Occ → Instance
+  abbrev pub inst : ℕ → Occ → Instance
   inst n o = instance_at t n o
 
-  abbrev Site : Instance → ℕ → Occ → Type 0
+  abbrev pub Site : Instance → ℕ → Occ → Type 0
   Site i n o = IsSite symbols rules t i n o
 
   abbrev Depends : Instance → Instance → Type 0
   Depends i j = DependsOn symbols rules t i j
 
-  abbrev seq-of : ℕ → List PlanItem
+  abbrev pub seq-of : ℕ → List PlanItem
   seq-of n = sequence_at t seqs n
 
   abbrev along : ℕ → List PlanItem → List Instance
@@ -74,7 +74,7 @@ module _ {V : Type 0} (symbols : List FlatSymbol) (rules : List FlatRule) (shape
           let same : seq ≡ seq-of n = sym (ap (λ o. unwrap_or (slice_get seqs (unwrap_or o 0)) []) e ∙ ap (λ o. unwrap_or o []) g) in
           subst (λ s. IsSoundSequence symbols visits r s) same (AllZip-at (IsSoundSequence symbols visits) rules seqs i r seq plan.1 f g)
 
-  site-of : (n : ℕ) (r : FlatRule) (o : Occ) → HasRule rules t n r → Contains (seq-of n) (Eval o) → Site (inst n o) n o
+  pub site-of : (n : ℕ) (r : FlatRule) (o : Occ) → HasRule rules t n r → Contains (seq-of n) (Eval o) → Site (inst n o) n o
   site-of n r o at m = record { rule = r; at = at; goal = goal; gives = refl }
     where
       goal : Contains (goals_of r) o

@@ -10,6 +10,12 @@ returns-clause-of_the_root c = computed.of-the-root
 pub returns-clause-of_the_cell : goal.returns-clause-of_the_cell
 returns-clause-of_the_cell c = computed.of-the-cell
 
+pub returns-clause-walk_of_the_root : goal.returns-clause-walk_of_the_root
+returns-clause-walk_of_the_root c = computed.walk-root
+
+pub returns-clause-walk_of_the_cell : goal.returns-clause-walk_of_the_cell
+returns-clause-walk_of_the_cell c = computed.walk-cell
+
 pub returns-clause-output : goal.returns-clause-output
 returns-clause-output c = computed.output
 

@@ -25,6 +25,7 @@ pub fn line_is_an_int()
 /// A call of an unknown name has no type, whatever its arguments are.
 pub fn unknown_function()
     ensures { (spec : Specification) (sets : Sets spec) (holder : Holder) (r : Rule) (own at : ℕ)
-        (args : List Expression) (ty : ValueType) → ¬ HasExprType spec sets (record { texts = codes "SUM" ∷ []; patterns = [] }) holder r own
+        (args : List Expression) (ty : ValueType)
+        → ¬ HasExprType spec sets (record { texts = codes "SUM" ∷ []; patterns = [] }) holder r own
         (expression.Call (record { at = at; id = record { 0 = 0 } }) args) ty }
 {}

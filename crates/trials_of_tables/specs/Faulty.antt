@@ -1,5 +1,7 @@
 -- Small specifications, each with one fault. A place is a byte of the text that stands above the specification.
-use Rattle.std.specs.Prelude.{ℕ, pos, true, false, List, [], ◌∷◌, None, codes}
+use Rattle.std.specs.Prelude.{ℕ, pos, true, false, List, [], ◌∷◌, Some, None, codes}
+use Rattle.lido_base.specs.declared.kinds.Kind.TheVariants as kind
+use Rattle.lido_base.specs.declared.value.ValueType.TheVariants as type
 use Rattle.lido_base.specs.Environment.{Environment}
 use Rattle.lido_syntax.specs.declared.spec.Spec.{Spec}
 use Rattle.lido_syntax.specs.declared.spec.Comp.{Comp}
@@ -125,3 +127,16 @@ class_cycle = record { rules = []; symbols = lower_class ∷ upper_class ∷ [];
 -- its symbols by number
 abbrev pub tables_of_cycle : Sets class_cycle → Tables class_cycle
 tables_of_cycle sets = record { sets = sets; symbols = X ∷ Y ∷ []; attributes = []; includings = []; constituents = []; forced = [] }
+
+-- SYMBOL S: a: int SYNT; END; RULE r: S ::= END;
+abbrev pub declaring_item : SymbolItem
+declaring_item = record { at = 0; class = false; names = name 7 S ∷ []; inherits = []; decls = record { attr = name 10 a; ty = type.Int; kind = Some kind.Synthesized } ∷ []; body = [] }
+
+abbrev pub empty_rule : RuleItem
+empty_rule = rule_at 33 r 36 S [] []
+
+abbrev pub missing_computation : Spec
+missing_computation = record { rules = empty_rule ∷ []; symbols = declaring_item ∷ []; attrs = []; terms = []; chains = [] }
+
+abbrev pub tables_of_missing : Sets missing_computation → Tables missing_computation
+tables_of_missing sets = record { sets = sets; symbols = S ∷ []; attributes = a ∷ []; includings = []; constituents = []; forced = [] ∷ [] }

@@ -4,7 +4,7 @@ ghost use Rattle.lido_base.specs.Faults.{First, AtPlace};
 ghost use Rattle.lido_syntax.specs.declared.fault.SpecFault.TheVariants as fault;
 ghost use Rattle.rule_tables.specs.Faults.{table_faults, IsDuplicate, IsRootNotOne, IsBadIndex, IsDouble, IsBadOut};
 ghost use Rattle.lido_syntax.specs.Sets.{Sets};
-ghost use Rattle.rule_tables.specs.InForceFaults.{in_force_faults};
+ghost use Rattle.rule_tables.specs.InForceFaults.{in_force_faults, IsMissingComputation};
 ghost use Rattle.rule_tables.specs.KindClash.{IsKindClash};
 ghost use Rattle.rule_tables.specs.Numbers.{AreNumbered};
 ghost use Rattle.rule_tables.specs.Uses.{symbol_uses};
@@ -55,4 +55,11 @@ pub fn class_cycle()
     ensures fault { (sets : Sets specification.class_cycle)
         → First (in_force_faults specification.class_cycle (specification.tables_of_cycle sets))
         (fault.ClassCycle (record { 0 = specification.Y } ∷ record { 0 = specification.Y } ∷ [])) }
+{}
+
+/// Nothing computes the attribute that the symbol of the left side declares.
+pub fn missing_computation()
+    ensures { (sets : Sets specification.missing_computation)
+        → IsMissingComputation specification.missing_computation (specification.tables_of_missing sets)
+        (fault.MissingComputation (record { 0 = specification.r }) 0 (record { 0 = specification.a })) }
 {}

@@ -12,6 +12,6 @@ pub use counted_items::{
     whole_tables_of_items, without_faults, without_in_force_faults,
 };
 pub use faulty::{
-    bad_index, bad_out, class_cycle, double_computation, duplicate_rule, kind_clash, root_not_one,
-    unknown_symbol,
+    bad_index, bad_out, class_cycle, double_computation, duplicate_rule, kind_clash,
+    missing_computation, root_not_one, unknown_symbol,
 };

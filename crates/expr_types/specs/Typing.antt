@@ -110,7 +110,7 @@ module _ (spec : Spec) (sets : Sets spec) where
         HaveTypes (more_of-Expr e es) (ty ∷ types) = HasExprType e ty × HaveTypes es types
         HaveTypes _ _ = ⊥
 
--- What is declared gives attributes, terminals and chains one type at most. KindClash refuses each specification in which one has two.
+-- What is declared gives attributes, terminals and chains one type at most.
 pub record AreSingleTypes (spec : Spec) : Type 0 where
   pub attribute : (s a : ℕ) (ty other : ValueType) → HasType spec s a ty → HasType spec s a other → ty ≡ other
   pub terminal : (s : ℕ) (ty other : ValueType) → IsTerminal spec s ty → IsTerminal spec s other → ty ≡ other

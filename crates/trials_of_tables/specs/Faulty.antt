@@ -128,12 +128,12 @@ class_cycle = record { rules = []; symbols = lower_class ∷ upper_class ∷ [];
 abbrev pub tables_of_cycle : Sets class_cycle → Tables class_cycle
 tables_of_cycle sets = record { sets = sets; symbols = X ∷ Y ∷ []; attributes = []; includings = []; constituents = []; forced = [] }
 
--- SYMBOL S: a: int SYNT; END; RULE r: S ::= END;
+-- SYMBOL S: a: int SYNT; RULE r: S ::= END;
 abbrev pub declaring_item : SymbolItem
 declaring_item = record { at = 0; class = false; names = name 7 S ∷ []; inherits = []; decls = record { attr = name 10 a; ty = type.Int; kind = Some kind.Synthesized } ∷ []; body = [] }
 
 abbrev pub empty_rule : RuleItem
-empty_rule = rule_at 33 r 36 S [] []
+empty_rule = rule_at 28 r 31 S [] []
 
 abbrev pub missing_computation : Spec
 missing_computation = record { rules = empty_rule ∷ []; symbols = declaring_item ∷ []; attrs = []; terms = []; chains = [] }

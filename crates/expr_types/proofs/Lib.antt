@@ -1,1 +1,2 @@
 pub mod TypingLemmas
+pub mod CallLemmas

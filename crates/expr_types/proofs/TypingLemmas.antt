@@ -120,7 +120,7 @@ choices-by = (refl, (refl, (refl, (refl, (refl, tt)))))
 
 -- ---- calls
 
-same-option : {X : Type 0} (x y : X) → Some x ≡ Some y → x ≡ y
+pub same-option : {X : Type 0} (x y : X) → Some x ≡ Some y → x ≡ y
 same-option x y e = ap (λ o. unwrap_or o x) e
 
 -- what the rows of a function are, or that it is ORDER

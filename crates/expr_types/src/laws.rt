@@ -1,5 +1,5 @@
 //! Laws of the definitions. Each function does nothing; what is proved is its contract.
-ghost use Rattle.std.specs.Prelude.{◌≡◌, ℕ, List};
+ghost use Rattle.std.specs.Prelude.{◌≡◌, ◌↔◌, ℕ, List};
 ghost use Rattle.lido_base.specs.declared.value.ValueType.{ValueType};
 ghost use Rattle.lido_base.specs.Environment.{Environment};
 ghost use Rattle.lido_syntax.specs.Computation.{Holder};
@@ -8,6 +8,8 @@ ghost use Rattle.lido_syntax.specs.declared.spec.Expr.{Expr as Expression};
 ghost use Rattle.lido_syntax.specs.declared.spec.Name.{Name};
 ghost use Rattle.lido_syntax.specs.declared.spec.RuleItem.{RuleItem as Rule};
 ghost use Rattle.lido_syntax.specs.declared.spec.Spec.{Spec as Specification};
+ghost use Rattle.lido_syntax.specs.declared.spec.Expr.TheVariants as expression;
+ghost use Rattle.expr_types.specs.Calls.{HaveEach};
 ghost use Rattle.expr_types.specs.Typing.{IsCall, HasExprType, AreSingleTypes};
 
 /// Where attributes, terminals and chains have one type at most, an expression has one type at most in its context; and what
@@ -18,4 +20,12 @@ pub fn expressions_have_one_type()
         → HasExprType spec sets env holder r own e ty → HasExprType spec sets env holder r own e other → ty ≡ other }
     ensures call { (env : Environment) (f : Name) (args : List ValueType) (ty other : ValueType)
         → IsCall env f args ty → IsCall env f args other → ty ≡ other }
+{}
+
+/// A call has the type that its function gives for the types of its arguments, one for each, and no other.
+pub fn calls_have_the_types_of_their_functions()
+    ensures { (spec : Specification) (sets : Sets spec) (env : Environment) (holder : Holder) (r : Rule) (own : ℕ)
+        (f : Name) (args : List Expression) (ty : ValueType)
+        → HasExprType spec sets env holder r own (expression.Call f args) ty
+        ↔ ((types : List ValueType) × HaveEach (HasExprType spec sets env holder r own) args types × IsCall env f types ty) }
 {}

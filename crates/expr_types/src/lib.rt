@@ -3,4 +3,4 @@
 
 mod laws;
 
-pub use laws::expressions_have_one_type;
+pub use laws::{calls_have_the_types_of_their_functions, expressions_have_one_type};

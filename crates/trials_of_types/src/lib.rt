@@ -4,6 +4,8 @@
 //! code. Nothing of the product stands on this crate.
 #![tactic(auto)]
 
+mod calls;
 mod small;
 
+pub use calls::{arguments_of_add, branches_of_if, last_of_order, nested_faults};
 pub use small::{line_is_an_int, single_types, unknown_function};

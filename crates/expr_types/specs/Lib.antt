@@ -1,2 +1,3 @@
 pub mod Typing
 pub mod Calls
+pub mod Computations

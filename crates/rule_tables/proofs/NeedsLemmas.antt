@@ -12,8 +12,9 @@ use Rattle.lido_syntax.specs.declared.spec.Pair.{Pair}
 use Rattle.lido_syntax.specs.declared.spec.Cons.{Cons}
 use Rattle.lido_syntax.specs.Sets.{is_source}
 use Rattle.flat_grammar.proofs.Lists.{contains-first, contains-later, contains-slice_get}
-use Rattle.rule_tables.specs.Uses.{is_same_option}
-use Rattle.rule_tables.specs.PlainRules.{PlainRule, symbol_at, is_child, enumerated}
+use Rattle.lido_symbols.specs.Uses.{is_same_option}
+use Rattle.rule_tables.specs.PlainRules.{PlainRule, symbol_at, is_child}
+use Rattle.lido_symbols.specs.Numbers.{enumerated}
 use Rattle.rule_tables.specs.Forced.{Force, context_of}
 use Rattle.rule_tables.specs.Needs.{Tables, Needs, rules, ruled, is_at, in_force_at, uses_including, passes_including, uses_constituents, shield_at, source_at, uses_chain, passes_chain, has_start, IsWanted, NeedsIncluding, CanReach, NeedsChain}
 use Rattle.lido_base.proofs.Lists.{flat-contains, map-contains}

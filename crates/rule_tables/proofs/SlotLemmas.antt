@@ -3,7 +3,7 @@ use Rattle.std.specs.Prelude.{◌≡◌, ℕ, zero, suc, ◌+◌, Bool, true, fa
 use Rattle.std.proofs.Common.{ap, sym, subst, ◌∙◌, arith, ◌⊎◌, inl, inr, eqb-true, eq-eqb}
 use Rattle.std.proofs.lemmas.Option.{none-some}
 use Rattle.flat_grammar.proofs.Lists.{contains-cons, contains-nil, held}
-use Rattle.rule_tables.specs.PlainRules.{place_in, enumerated}
+use Rattle.lido_symbols.specs.Numbers.{place_in, enumerated}
 use Rattle.rule_tables.specs.Slots.{Slot, Written, Inc, Con, Front, Behind, Msg, Out, is_same_slot}
 
 -- what passes the test of its own place stands at its first place

@@ -28,8 +28,9 @@ use Rattle.lido_syntax.specs.Functions.{text_of, operation_of}
 use Rattle.flat_grammar.specs.declared.flat.Occ.{Occ}
 use Rattle.flat_grammar.specs.declared.flat.FlatExpr.{FlatExpr}
 use Rattle.flat_grammar.specs.declared.flat.FlatExpr.TheVariants as flat
-use Rattle.rule_tables.specs.Uses.{is_same_set}
-use Rattle.rule_tables.specs.PlainRules.{PlainRule, place_in, symbol_at}
+use Rattle.lido_symbols.specs.Uses.{is_same_set}
+use Rattle.rule_tables.specs.PlainRules.{PlainRule, symbol_at}
+use Rattle.lido_symbols.specs.Numbers.{place_in}
 use Rattle.rule_tables.specs.Forced.{Force, force_for}
 use Rattle.rule_tables.specs.Needs.{Tables, Needs}
 use Rattle.rule_tables.specs.Slots.{Slot, Written, Inc, Front, is_same_slot, chains}

@@ -27,7 +27,8 @@ use Rattle.flat_grammar.specs.declared.flat.FlatComp.{FlatComp}
 use Rattle.flat_grammar.specs.declared.flat.FlatExpr.{FlatExpr}
 use Rattle.flat_grammar.specs.declared.flat.Shape.{Shape}
 use Rattle.flat_grammar.specs.Rules.{dependencies}
-use Rattle.rule_tables.specs.PlainRules.{PlainRule, place_in, Role, Whole, Listing, Link, End, lists, number, enumerated}
+use Rattle.rule_tables.specs.PlainRules.{PlainRule, Role, Whole, Listing, Link, End, lists, number}
+use Rattle.lido_symbols.specs.Numbers.{place_in, enumerated}
 use Rattle.rule_tables.specs.Forced.{Force, context_of}
 use Rattle.rule_tables.specs.Needs.{Tables, Needs, ruled}
 use Rattle.rule_tables.specs.Slots.{Slot, Written, Inc, Con, Front, Behind, Msg, Out, HasSlot}

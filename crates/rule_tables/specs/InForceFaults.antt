@@ -14,7 +14,7 @@ use Rattle.lido_syntax.specs.Symbols.{IsNonterminal, IsRoot, IsChain}
 use Rattle.lido_syntax.specs.Sets.{inherits_directly}
 use Rattle.lido_syntax.specs.Attributes.{Has, HasKind}
 use Rattle.lido_syntax.specs.Computation.{Goal, Synthesized, Inherited, Start, Behind, InSymbol, HasInSymbol, HasComputation, IsLeft}
-use Rattle.rule_tables.specs.PlainRules.{place_in}
+use Rattle.lido_symbols.specs.Numbers.{place_in}
 use Rattle.rule_tables.specs.Needs.{Tables}
 
 -- of two pairs of numbers the first comes before the second

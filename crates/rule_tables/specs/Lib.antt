@@ -1,5 +1,3 @@
-pub mod Numbers
-pub mod Uses
 pub mod PlainRules
 pub mod Forced
 pub mod Needs
@@ -7,6 +5,4 @@ pub mod Slots
 pub mod Shares
 pub mod Copies
 pub mod Flat
-pub mod KindClash
-pub mod Faults
 pub mod InForceFaults

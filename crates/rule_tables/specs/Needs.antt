@@ -15,8 +15,8 @@ use Rattle.lido_syntax.specs.Production.{name_of}
 use Rattle.lido_syntax.specs.Sets.{Sets, is_source, is_shield}
 use Rattle.lido_syntax.specs.Including.{listed}
 use Rattle.lido_syntax.specs.Computation.{Start, Behind}
-use Rattle.rule_tables.specs.Numbers.{AreNumbered}
-use Rattle.rule_tables.specs.Uses.{including_of, constituents_of, is_same_set, is_same_constituents, is_same_option, symbol_uses, attribute_uses, all_includings, all_constituents}
+use Rattle.lido_symbols.specs.Numbers.{AreNumbered}
+use Rattle.lido_symbols.specs.Uses.{including_of, constituents_of, is_same_set, is_same_constituents, is_same_option, symbol_uses, attribute_uses, all_includings, all_constituents}
 use Rattle.rule_tables.specs.PlainRules.{PlainRule, plain_rules, symbol_at, is_child}
 use Rattle.rule_tables.specs.Forced.{Force, context_of, is_same_goal, force_for, AreForced}
 

@@ -1,7 +1,8 @@
 -- Plain rules: each written rule, and for each list the rules of its cell. Symbols are numbered, cells behind the others.
-use Rattle.std.specs.Prelude.{ℕ, suc, ◌+◌, Bool, false, nat_eq, not, if◌then◌else◌, List, [], ◌∷◌, ◌++◌, map, flat_map, filter, length, Option, slice_get}
+use Rattle.std.specs.Prelude.{ℕ, ◌+◌, Bool, false, nat_eq, if◌then◌else◌, List, [], ◌∷◌, ◌++◌, map, flat_map, filter, length, Option, slice_get}
 use Rattle.std.specs.List.{list_any}
 use Rattle.lido_base.specs.Tree.{contains}
+use Rattle.lido_symbols.specs.Numbers.{place_in, enumerated, different}
 use Rattle.lido_syntax.specs.declared.spec.Spec.{Spec}
 use Rattle.lido_syntax.specs.declared.spec.RuleItem.{RuleItem}
 use Rattle.lido_syntax.specs.Production.{left_of, right_of}
@@ -20,21 +21,6 @@ pub record PlainRule : Type 0 where
   pub role : Role
   pub left : ℕ
   pub right : List ℕ
-
--- the first place in a list at which the test passes, and its length where there is none
-abbrev pub place_in : {X : Type 0} → (X → Bool) → List X → ℕ
-place_in test [] = 0
-place_in test (x ∷ xs) = if test x then 0 else suc (place_in test xs)
-
--- the items of a list with their numbers
-abbrev pub enumerated : {X : Type 0} → ℕ → List X → List (ℕ × X)
-enumerated k [] = []
-enumerated k (x ∷ xs) = (k, x) ∷ enumerated (suc k) xs
-
--- the different numbers of a list, at their first places
-abbrev pub different : List ℕ → List ℕ
-different [] = []
-different (x ∷ xs) = x ∷ filter (λ y. not (nat_eq x y)) (different xs)
 
 -- the symbol at an occurrence: 0 is the left side
 abbrev pub symbol_at : PlainRule → ℕ → Option ℕ

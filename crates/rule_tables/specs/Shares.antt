@@ -11,7 +11,8 @@ use Rattle.lido_syntax.specs.declared.spec.Comp.{Comp}
 use Rattle.lido_syntax.specs.Production.{left_of}
 use Rattle.lido_syntax.specs.Computation.{Start, Output, Holder}
 use Rattle.lido_syntax.specs.Computation as goal
-use Rattle.rule_tables.specs.PlainRules.{PlainRule, Role, Whole, Listing, Link, End, enumerated}
+use Rattle.rule_tables.specs.PlainRules.{PlainRule, Role, Whole, Listing, Link, End}
+use Rattle.lido_symbols.specs.Numbers.{enumerated}
 use Rattle.rule_tables.specs.Forced.{Force, force_for}
 use Rattle.rule_tables.specs.Needs.{Tables, Needs, listed_at, shield_at, has_start}
 use Rattle.rule_tables.specs.Slots.{Slot, Written, Inc, Con, Front, Behind, has_con, chains}

@@ -9,7 +9,7 @@ use Rattle.lido_syntax.specs.Production.{name_of, left_of}
 use Rattle.lido_syntax.specs.Computation.{messages_of}
 use Rattle.lido_syntax.specs.Symbols.{IsNonterminal, IsRoot}
 use Rattle.lido_syntax.specs.Attributes.{Has}
-use Rattle.rule_tables.specs.PlainRules.{place_in}
+use Rattle.lido_symbols.specs.Numbers.{place_in}
 use Rattle.rule_tables.specs.Needs.{Tables, Needs}
 
 -- What an attribute of the flat grammar is: a written one, by its name; INCLUDING of a set, by its number; CONSTITUENTS, by its

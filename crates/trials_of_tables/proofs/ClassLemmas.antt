@@ -12,9 +12,10 @@ use Rattle.lido_syntax.specs.Production.{name_of}
 use Rattle.lido_syntax.specs.Sets.{names_of}
 use Rattle.lido_syntax.specs.Attributes.{InBody, InText, IsDeclared, OfClass}
 use Rattle.trials_of_syntax.proofs.Members.{every}
-use Rattle.rule_tables.specs.Uses.{production_names}
-use Rattle.rule_tables.specs.KindClash.{IsClass, IsKindClash, SaysKind, IsOfTerminal, IsTwofold, IsChainAgain, IsChainElsewhere}
-use Rattle.rule_tables.specs.KindClash as clash
+use Rattle.lido_symbols.specs.Uses.{production_names}
+use Rattle.kind_clashes.specs.KindClash.{IsKindClash, SaysKind, IsOfTerminal, IsTwofold, IsChainAgain, IsChainElsewhere}
+use Rattle.lido_symbols.specs.Classes.{IsClass}
+use Rattle.kind_clashes.specs.KindClash as clash
 use Rattle.trials_of_tables.specs.Faulty.{env, kind_clash, class_item, rule_of_class, S, X}
 
 no_rule_body : (r : RuleItem) → Contains kind_clash.rules r → (c : Comp) → Contains r.body c → ⊥

@@ -25,9 +25,10 @@ use Rattle.lido_syntax.specs.Symbols.{IsNonterminal, IsChain}
 use Rattle.lido_syntax.specs.Sets.{names_of}
 use Rattle.lido_syntax.specs.Attributes.{Use, uses, possible, IsOnSide, InBody, InText, IsDeclared, OfClass}
 use Rattle.trials_of_syntax.proofs.Members.{every}
-use Rattle.rule_tables.specs.Uses.{production_names, declared_names}
-use Rattle.rule_tables.specs.KindClash.{IsClass, IsPlainTerminal, IsKindClash, SaysKind, IsOfTerminal, IsTwofold, IsChainAgain, IsChainElsewhere, IsBelow, remote_names, pairs_of, chain_names}
-use Rattle.rule_tables.specs.KindClash as clash
+use Rattle.lido_symbols.specs.Uses.{production_names, declared_names}
+use Rattle.kind_clashes.specs.KindClash.{IsPlainTerminal, IsKindClash, SaysKind, IsOfTerminal, IsTwofold, IsChainAgain, IsChainElsewhere, IsBelow, remote_names, pairs_of, chain_names}
+use Rattle.lido_symbols.specs.Classes.{IsClass}
+use Rattle.kind_clashes.specs.KindClash as clash
 use Rattle.trials_of_tables.specs.CountedItems.{spec, env, Num, Counted, Top, Item, no, pairs, sum, give_t, give_b, start, out, give_no, warn, top_rule, item_rule, class_item, heir_item}
 use Rattle.trials_of_tables.specs.Writing.{name}
 use Rattle.trials_of_tables.proofs.NoFaultLemmas.{each_rule, each_item, in_rules, in_text, its_class}

@@ -19,10 +19,10 @@ use Rattle.lido_syntax.specs.Symbols.{IsRoot, IsOnRightSide}
 use Rattle.lido_syntax.specs.Attributes.{InText}
 use Rattle.lido_syntax.specs.Computation.{Goal, Synthesized, Inherited, Start, Behind, Output, Message, IsRuleTarget}
 use Rattle.trials_of_syntax.proofs.Members.{every}
-use Rattle.rule_tables.specs.Uses.{symbol_uses}
-use Rattle.rule_tables.specs.KindClash.{IsClass}
-use Rattle.rule_tables.specs.Faults.{IsUnknown, IsKnown, IsPlaceOf, IsDuplicate, IsRootNotOne, AreRoots, IsBadIndex, IsDouble, IsBadOut, IsOut, IsTooManyOf, IsTooMany, table_faults, in_production, class}
-use Rattle.rule_tables.specs.Faults as faults
+use Rattle.lido_symbols.specs.Uses.{symbol_uses}
+use Rattle.lido_symbols.specs.Classes.{IsClass}
+use Rattle.table_faults.specs.Faults.{IsUnknown, IsKnown, IsPlaceOf, IsDuplicate, IsRootNotOne, AreRoots, IsBadIndex, IsDouble, IsBadOut, IsOut, IsTooManyOf, IsTooMany, table_faults, in_production, class}
+use Rattle.table_faults.specs.Faults as faults
 use Rattle.trials_of_tables.specs.CountedItems.{spec, env, Num, Counted, Top, Item, give_t, give_b, start, out, give_no, warn, top_rule, item_rule, class_item, heir_item}
 
 -- what holds of each rule, each item, and each computation with the rule or item that it stands in

@@ -6,7 +6,7 @@ use Rattle.std.proofs.lemmas.List.Elements.{All-contains}
 use Rattle.lido_base.proofs.TreeLemmas.{both}
 use Rattle.trials_of_grammar.proofs.TestedTrees.{implies}
 use Rattle.trials_of_grammar.proofs.TestedGrammars.{all-tested, all_differ, pairs-tested}
-use Rattle.rule_tables.specs.Numbers.{AreNumbered}
+use Rattle.lido_symbols.specs.Numbers.{AreNumbered}
 use Rattle.rule_tables.proofs.NeedsLemmas.{any-found}
 
 implied : (x y : Bool) → IsTrue (implies x y) → IsTrue x → IsTrue y

@@ -6,7 +6,7 @@ use Rattle.lido_syntax.specs.declared.spec.Pair.{Pair}
 use Rattle.lido_syntax.specs.Sets.{Sets}
 use Rattle.trials_of_grammar.proofs.Finite.{all-of, pairs-of}
 use Rattle.trials_of_syntax.proofs.Members.{every}
-use Rattle.rule_tables.specs.Uses.{symbol_uses, attribute_uses, all_includings, all_constituents, is_same_set, is_same_constituents}
+use Rattle.lido_symbols.specs.Uses.{symbol_uses, attribute_uses, all_includings, all_constituents, is_same_set, is_same_constituents}
 use Rattle.rule_tables.specs.Needs.{AreTables}
 use Rattle.trials_of_tables.specs.CountedItems.{spec, env, symbols, tables, Item, b, t, no, pairs, sum}
 use Rattle.trials_of_tables.proofs.ItemsLemmas.{no_top}

@@ -2,15 +2,15 @@
 ghost use Rattle.std.specs.Prelude.{◌≡◌, ◌∷◌, [], ℕ, List, codes, nat_eq};
 ghost use Rattle.lido_syntax.specs.Sets.{Sets};
 ghost use Rattle.rule_tables.specs.Copies.{message, joined, shown, constant_text};
-ghost use Rattle.rule_tables.specs.Faults.{table_faults};
+ghost use Rattle.table_faults.specs.Faults.{table_faults};
 ghost use Rattle.rule_tables.specs.Forced.{AreForced};
 ghost use Rattle.rule_tables.specs.InForceFaults.{in_force_faults};
 ghost use Rattle.rule_tables.specs.Needs.{rules, AreTables, Needs, NeedsIncluding, NeedsChain, IsWanted, CanReach};
-ghost use Rattle.rule_tables.specs.Numbers.{AreNumbered};
+ghost use Rattle.lido_symbols.specs.Numbers.{AreNumbered};
 ghost use Rattle.rule_tables.specs.PlainRules.{plain_rules};
 ghost use Rattle.rule_tables.specs.Shares.{IncludingShare, ConstituentsShare, ChainShare, Read, Copied, Comb, below_term, out_term};
 ghost use Rattle.rule_tables.specs.Slots.{Slot, Written, Inc, Con, Front, Behind, Msg, Out, AreSlots, IsBefore};
-ghost use Rattle.rule_tables.specs.Uses.{all_includings, all_constituents, attribute_uses, symbol_uses};
+ghost use Rattle.lido_symbols.specs.Uses.{all_includings, all_constituents, attribute_uses, symbol_uses};
 ghost use Rattle.lido_base.specs.Faults.{HasNone};
 ghost use Rattle.lido_syntax.specs.Computation.{by_rule};
 ghost use Rattle.trials_of_tables.specs.CountedItems.{spec, env, symbols, slots, tables, cell, Top, Item, b, t};

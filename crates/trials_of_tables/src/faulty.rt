@@ -2,12 +2,12 @@
 ghost use Rattle.std.specs.Prelude.{nat_eq, ◌∷◌, []};
 ghost use Rattle.lido_base.specs.Faults.{First, AtPlace};
 ghost use Rattle.lido_syntax.specs.declared.fault.SpecFault.TheVariants as fault;
-ghost use Rattle.rule_tables.specs.Faults.{table_faults, IsDuplicate, IsRootNotOne, IsBadIndex, IsDouble, IsBadOut};
+ghost use Rattle.table_faults.specs.Faults.{table_faults, IsDuplicate, IsRootNotOne, IsBadIndex, IsDouble, IsBadOut};
 ghost use Rattle.lido_syntax.specs.Sets.{Sets};
 ghost use Rattle.rule_tables.specs.InForceFaults.{in_force_faults, IsMissingComputation};
-ghost use Rattle.rule_tables.specs.KindClash.{IsKindClash};
-ghost use Rattle.rule_tables.specs.Numbers.{AreNumbered};
-ghost use Rattle.rule_tables.specs.Uses.{symbol_uses};
+ghost use Rattle.kind_clashes.specs.KindClash.{IsKindClash};
+ghost use Rattle.lido_symbols.specs.Numbers.{AreNumbered};
+ghost use Rattle.lido_symbols.specs.Uses.{symbol_uses};
 ghost use Rattle.trials_of_tables.specs.Faulty as specification;
 ghost use Rattle.trials_of_tables.specs.Faulty.{env};
 

@@ -1,5 +1,5 @@
 use Rattle.std.specs.Prelude.{[], ◌∷◌, refl}
-use Rattle.rule_tables.specs.Uses.{attribute_uses, symbol_uses}
+use Rattle.lido_symbols.specs.Uses.{attribute_uses, symbol_uses}
 use Rattle.trials_of_tables.specs.CountedItems.{spec, env, symbols, b, t, no}
 use Rattle.trials_of_tables.proofs.NumberLemmas.{numbered}
 use Rattle.trials_of_tables.proofs.counted_items.tables_of_items.Goals as goal

@@ -4,8 +4,8 @@ use Rattle.lido_base.specs.declared.kinds.Many.TheVariants as many
 use Rattle.lido_base.proofs.FaultsLemmas.{none-at_place}
 use Rattle.lido_syntax.specs.declared.fault.SpecFault.TheVariants as fault
 use Rattle.lido_syntax.specs.Production.{right_of}
-use Rattle.rule_tables.specs.KindClash.{IsKindClash}
-use Rattle.rule_tables.specs.Faults.{IsUnknown, IsDuplicate, IsBadIndex, IsDouble, IsBadOut, IsTooMany, symbols, rules, elements, computations_and_constituents}
+use Rattle.kind_clashes.specs.KindClash.{IsKindClash}
+use Rattle.table_faults.specs.Faults.{IsUnknown, IsDuplicate, IsBadIndex, IsDouble, IsBadOut, IsTooMany, symbols, rules, elements, computations_and_constituents}
 use Rattle.trials_of_tables.specs.CountedItems.{spec, env}
 use Rattle.trials_of_tables.proofs.NoFaultLemmas.{each_rule, no_unknown, no_bad_index, no_duplicate, one_root_alone, no_double, no_bad_out}
 use Rattle.trials_of_tables.proofs.NoClashLemmas.{no_clash}

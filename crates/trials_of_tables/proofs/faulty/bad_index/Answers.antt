@@ -10,8 +10,8 @@ use Rattle.lido_syntax.specs.declared.spec.Expr.{Expr, Read, Terminal}
 use Rattle.lido_syntax.specs.Parts.{leaves_of}
 use Rattle.lido_syntax.specs.Production.{occurrence}
 use Rattle.trials_of_syntax.proofs.Members.{every}
-use Rattle.rule_tables.specs.Faults.{IsBadIndex, IsPlaceOf}
-use Rattle.rule_tables.specs.Faults as faults
+use Rattle.table_faults.specs.Faults.{IsBadIndex, IsPlaceOf}
+use Rattle.table_faults.specs.Faults as faults
 use Rattle.trials_of_tables.specs.Faulty.{env, bad_index, rule_of_two, no_index, X}
 use Rattle.trials_of_tables.specs.Writing.{name}
 use Rattle.trials_of_tables.proofs.faulty.bad_index.Goals as goal

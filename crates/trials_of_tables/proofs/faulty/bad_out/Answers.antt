@@ -5,8 +5,8 @@ use Rattle.lido_syntax.specs.declared.spec.RuleItem.{RuleItem}
 use Rattle.lido_syntax.specs.Production.{left_of}
 use Rattle.lido_syntax.specs.Symbols.{IsRoot}
 use Rattle.trials_of_syntax.proofs.Members.{every}
-use Rattle.rule_tables.specs.Faults.{IsBadOut}
-use Rattle.rule_tables.specs.Faults as faults
+use Rattle.table_faults.specs.Faults.{IsBadOut}
+use Rattle.table_faults.specs.Faults as faults
 use Rattle.trials_of_tables.specs.Faulty.{env, bad_out, rule_of_outs, first_out, second_out}
 use Rattle.trials_of_tables.proofs.faulty.bad_out.Goals as goal
 

@@ -3,7 +3,7 @@ use Rattle.std.proofs.Common.{arith, inl, inr, eqb-true}
 use Rattle.lido_base.specs.Reach.{IsClosedPath, IsNoLater}
 use Rattle.lido_syntax.specs.Sets.{Sets}
 use Rattle.rule_tables.specs.InForceFaults.{is_heir}
-use Rattle.rule_tables.specs.Uses.{symbol_uses}
+use Rattle.lido_symbols.specs.Uses.{symbol_uses}
 use Rattle.trials_of_tables.specs.Faulty.{env, class_cycle, tables_of_cycle, X, Y}
 use Rattle.trials_of_tables.proofs.NumberLemmas.{numbered}
 use Rattle.trials_of_tables.proofs.faulty.class_cycle.Goals as goal

@@ -4,8 +4,8 @@ use Rattle.lido_syntax.specs.declared.spec.Comp.{Comp}
 use Rattle.lido_syntax.specs.declared.spec.RuleItem.{RuleItem}
 use Rattle.lido_syntax.specs.Computation.{Synthesized}
 use Rattle.trials_of_syntax.proofs.Members.{every}
-use Rattle.rule_tables.specs.Faults.{IsDouble}
-use Rattle.rule_tables.specs.Faults as faults
+use Rattle.table_faults.specs.Faults.{IsDouble}
+use Rattle.table_faults.specs.Faults as faults
 use Rattle.trials_of_tables.specs.Faulty.{env, double_computation, rule_of_twice, one, two, a}
 use Rattle.trials_of_tables.proofs.faulty.double_computation.Goals as goal
 

@@ -2,7 +2,7 @@ use Rattle.std.specs.Prelude.{◌≡◌, ℕ, zero, suc, ◌<◌, ◌≤◌, Som
 use Rattle.std.proofs.Common.{arith, ap, sym}
 use Rattle.std.proofs.lemmas.Option.{none-some, same_Some}
 use Rattle.lido_syntax.specs.declared.spec.RuleItem.{RuleItem}
-use Rattle.rule_tables.specs.Faults.{IsDuplicate, later}
+use Rattle.table_faults.specs.Faults.{IsDuplicate, later}
 use Rattle.trials_of_tables.specs.Faulty.{env, duplicate_rule, first_rule, same_name}
 use Rattle.trials_of_tables.proofs.faulty.duplicate_rule.Goals as goal
 

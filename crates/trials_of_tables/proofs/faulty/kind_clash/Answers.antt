@@ -1,6 +1,6 @@
 use Rattle.std.specs.Prelude.{refl}
 use Rattle.std.proofs.Common.{arith}
-use Rattle.rule_tables.specs.KindClash.{class_in_production}
+use Rattle.kind_clashes.specs.KindClash.{class_in_production}
 use Rattle.trials_of_tables.specs.Faulty.{rule_of_class, X}
 use Rattle.trials_of_tables.specs.Writing.{name}
 use Rattle.trials_of_tables.proofs.ClassLemmas.{X_is, least}

@@ -10,9 +10,9 @@ use Rattle.lido_syntax.specs.declared.spec.Place.TheVariants as place
 use Rattle.lido_syntax.specs.declared.spec.Expr.{Expr, Read, Terminal}
 use Rattle.lido_syntax.specs.Parts.{leaves_of}
 use Rattle.trials_of_syntax.proofs.Members.{every}
-use Rattle.rule_tables.specs.Uses.{symbol_uses}
-use Rattle.rule_tables.specs.Faults.{IsUnknown, IsKnown, IsPlaceOf, place_at, in_production}
-use Rattle.rule_tables.specs.Faults as faults
+use Rattle.lido_symbols.specs.Uses.{symbol_uses}
+use Rattle.table_faults.specs.Faults.{IsUnknown, IsKnown, IsPlaceOf, place_at, in_production}
+use Rattle.table_faults.specs.Faults as faults
 use Rattle.trials_of_tables.specs.Faulty.{env, unknown_symbol, foreign_rule, foreign, Y, a}
 use Rattle.trials_of_tables.specs.Writing.{name}
 use Rattle.trials_of_tables.proofs.faulty.unknown_symbol.Goals as goal

@@ -24,7 +24,8 @@ use Rattle.lido_syntax.specs.Parts.{leaves_of}
 use Rattle.lido_syntax.specs.Symbols.{IsNonterminal, IsTerminal, IsChain}
 use Rattle.lido_syntax.specs.Sets.{names_of}
 use Rattle.lido_syntax.specs.Attributes.{uses, possible, IsOnSide, IsOwn, InBody, InText, IsDeclared, OfClass, Has}
-use Rattle.rule_tables.specs.Uses.{is_coordinate_of_rule, production_names, declared_names}
+use Rattle.lido_symbols.specs.Classes.{IsClass}
+use Rattle.lido_symbols.specs.Uses.{is_coordinate_of_rule, production_names, declared_names}
 
 -- the names of a remote list, of its pairs and behind its SHIELD
 abbrev pub remote_names : Expr → List Name
@@ -38,13 +39,9 @@ pairs_of (Constituents k) = k.pairs
 pairs_of _ = []
 
 module _ (spec : Spec) where
-  -- a CLASS SYMBOL item is about the name
-  abbrev pub IsClass : ℕ → Type 0
-  IsClass s = (item : SymbolItem) × Contains spec.symbols item × IsTrue item.class × Contains (names_of item) s
-
   -- a terminal, and no class
   abbrev pub IsPlainTerminal : ℕ → Type 0
-  IsPlainTerminal s = ((ty : ValueType) × IsTerminal spec s ty) × ¬ IsClass s
+  IsPlainTerminal s = ((ty : ValueType) × IsTerminal spec s ty) × ¬ IsClass spec s
 
   -- a leaf of some computation of the text
   abbrev pub IsLeaf : Expr → Type 0
@@ -98,11 +95,11 @@ module _ (spec : Spec) where
 
   -- one for each entry of the list of clashes
   pub data IsKindClash (env : Environment) (at : ℕ) : Type 0 where
-    class_in_production : (r : RuleItem) (x : Name) → Contains spec.rules r → Contains (production_names r) x → IsClass (name_of x) → at ≡ x.at → IsKindClash env at
+    class_in_production : (r : RuleItem) (x : Name) → Contains spec.rules r → Contains (production_names r) x → IsClass spec (name_of x) → at ≡ x.at → IsKindClash env at
     faulty_term : (d : Typed1) → Contains spec.terms d → at ≡ d.name.at
-        → IsClass (name_of d.name) ⊎ IsNonterminal spec (name_of d.name) ⊎ ((e : Typed1) × Contains spec.terms e × (name_of e.name ≡ name_of d.name) × (e.ty ≡ d.ty → ⊥) × (e.name.at < at)) → IsKindClash env at
+        → IsClass spec (name_of d.name) ⊎ IsNonterminal spec (name_of d.name) ⊎ ((e : Typed1) × Contains spec.terms e × (name_of e.name ≡ name_of d.name) × (e.ty ≡ d.ty → ⊥) × (e.name.at < at)) → IsKindClash env at
     terminal_in_list : (r : RuleItem) (x : Name) (ty : ValueType) → Contains spec.rules r → r.list ≡ true → Contains r.right (Symbol x) → IsTerminal spec (name_of x) ty → at ≡ x.at → IsKindClash env at
-    inherits_no_class : (item : SymbolItem) (x : Name) → Contains spec.symbols item → Contains item.inherits x → ¬ IsClass (name_of x) → at ≡ x.at → IsKindClash env at
+    inherits_no_class : (item : SymbolItem) (x : Name) → Contains spec.symbols item → Contains item.inherits x → ¬ IsClass spec (name_of x) → at ≡ x.at → IsKindClash env at
     attribute_of_terminal : IsOfTerminal at → IsKindClash env at
     twofold_attribute : IsTwofold at → IsKindClash env at
     chain_declared_again : IsChainAgain at → IsKindClash env at

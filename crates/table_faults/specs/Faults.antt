@@ -20,9 +20,10 @@ use Rattle.lido_syntax.specs.Production.{name_of, left_of, right_of, symbols_of,
 use Rattle.lido_syntax.specs.Parts.{leaves_of}
 use Rattle.lido_syntax.specs.Symbols.{IsTerm, IsRoot}
 use Rattle.lido_syntax.specs.Computation.{Goal, Output, InRule, InSymbol}
-use Rattle.rule_tables.specs.Uses.{is_coordinate_of_rule, is_coordinate_of_symbol, symbol_uses, computations, all_constituents}
-use Rattle.rule_tables.specs.PlainRules.{different}
-use Rattle.rule_tables.specs.KindClash.{IsClass, IsKindClash}
+use Rattle.lido_symbols.specs.Uses.{is_coordinate_of_rule, is_coordinate_of_symbol, symbol_uses, computations, all_constituents}
+use Rattle.lido_symbols.specs.Numbers.{different}
+use Rattle.kind_clashes.specs.KindClash.{IsKindClash}
+use Rattle.lido_symbols.specs.Classes.{IsClass}
 
 -- a place of an attribute in a computation, target or read, and where in the text it stands
 abbrev pub place_at : Place → ℕ → ℕ

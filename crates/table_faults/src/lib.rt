@@ -1,0 +1,2 @@
+//! The faults of the tables of a specification, and the first of them.
+#![tactic(auto)]

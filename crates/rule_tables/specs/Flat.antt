@@ -27,7 +27,7 @@ use Rattle.flat_grammar.specs.declared.flat.FlatComp.{FlatComp}
 use Rattle.flat_grammar.specs.declared.flat.FlatExpr.{FlatExpr}
 use Rattle.flat_grammar.specs.declared.flat.Shape.{Shape}
 use Rattle.flat_grammar.specs.Rules.{dependencies}
-use Rattle.rule_tables.specs.PlainRules.{PlainRule, Role, Whole, Listing, Link, End, lists, number}
+use Rattle.rule_tables.specs.PlainRules.{PlainRule, Role, Whole, Listing, Link, End, lists, number, IsShapeOf}
 use Rattle.lido_symbols.specs.Numbers.{place_in, enumerated}
 use Rattle.rule_tables.specs.Forced.{Force, context_of}
 use Rattle.rule_tables.specs.Needs.{Tables, Needs, ruled}
@@ -53,6 +53,34 @@ abbrev pub IsOfNode : Role → Type 0
 IsOfNode Whole = Unit {0}
 IsOfNode Listing = Unit {0}
 IsOfNode _ = ⊥
+
+module _ (spec : Spec) (T : Tables spec) where
+  abbrev pub IsSlotKind : ℕ → Slot → Kind → Type 0
+  IsSlotKind x (Written a) k = (s : ℕ) × (slice_get T.symbols x ≡ Some s) × HasKind spec s a k
+  IsSlotKind x (Inc i) k = k ≡ kind.Inherited
+  IsSlotKind x (Front c) k = k ≡ kind.Inherited
+  IsSlotKind x _ k = k ≡ kind.Synthesized
+
+  -- the type of an INCLUDING is that of each attribute that it lists
+  abbrev pub IsListedType : List Pair → ValueType → Type 0
+  IsListedType pairs ty = (s a : ℕ) → IsNonterminal spec s → listed spec T.sets pairs s ≡ Some a → HasType spec s a ty
+
+  -- and where it lists none, that of its first attribute on the class
+  abbrev pub IsEmptySet : List Pair → Type 0
+  IsEmptySet pairs = (s : ℕ) → IsNonterminal spec s → listed spec T.sets pairs s ≡ None
+
+  abbrev pub IsFirstType : List Pair → ValueType → Type 0
+  IsFirstType [] ty = ⊥
+  IsFirstType (p ∷ more) ty = HasType spec (name_of p.sym) (name_of p.attr) ty
+
+  abbrev pub IsSlotType : ℕ → Slot → ValueType → Type 0
+  IsSlotType x (Written a) ty = (s : ℕ) × (slice_get T.symbols x ≡ Some s) × HasType spec s a ty
+  IsSlotType x (Inc i) ty = (pairs : List Pair) × (slice_get T.includings i ≡ Some pairs) × IsListedType pairs ty × (IsEmptySet pairs → IsFirstType pairs ty)
+  IsSlotType x (Con n) ty = (k : Cons) × Contains T.constituents k × (k.number ≡ n) × (ty ≡ elim k.with [ None ↦ type.Void | Some with ↦ with.ty ])
+  IsSlotType x (Front c) ty = (d : Typed1) × Contains spec.chains d × (name_of d.name ≡ c) × (ty ≡ d.ty)
+  IsSlotType x (Behind c) ty = (d : Typed1) × Contains spec.chains d × (name_of d.name ≡ c) × (ty ≡ d.ty)
+  IsSlotType x (Msg j) ty = ty ≡ type.Text
+  IsSlotType x Out ty = ty ≡ type.Text
 
 module _ (spec : Spec) (T : Tables spec) (needs : Needs spec T) (slots : ℕ → List Slot) (env : Environment) where
   -- The computations of a plain rule: of an occurrence's attribute, with the occurrence of origin, the value and what it depends on.
@@ -96,33 +124,6 @@ module _ (spec : Spec) (T : Tables spec) (needs : Needs spec T) (slots : ℕ →
   slot_text (Msg j) = codes "$msg" ++ decimal j
   slot_text Out = codes "$out"
 
-  abbrev pub IsSlotKind : ℕ → Slot → Kind → Type 0
-  IsSlotKind x (Written a) k = (s : ℕ) × (slice_get T.symbols x ≡ Some s) × HasKind spec s a k
-  IsSlotKind x (Inc i) k = k ≡ kind.Inherited
-  IsSlotKind x (Front c) k = k ≡ kind.Inherited
-  IsSlotKind x _ k = k ≡ kind.Synthesized
-
-  -- the type of an INCLUDING is that of each attribute that it lists
-  abbrev pub IsListedType : List Pair → ValueType → Type 0
-  IsListedType pairs ty = (s a : ℕ) → IsNonterminal spec s → listed spec T.sets pairs s ≡ Some a → HasType spec s a ty
-
-  -- and where it lists none, that of its first attribute on the class
-  abbrev pub IsEmptySet : List Pair → Type 0
-  IsEmptySet pairs = (s : ℕ) → IsNonterminal spec s → listed spec T.sets pairs s ≡ None
-
-  abbrev pub IsFirstType : List Pair → ValueType → Type 0
-  IsFirstType [] ty = ⊥
-  IsFirstType (p ∷ more) ty = HasType spec (name_of p.sym) (name_of p.attr) ty
-
-  abbrev pub IsSlotType : ℕ → Slot → ValueType → Type 0
-  IsSlotType x (Written a) ty = (s : ℕ) × (slice_get T.symbols x ≡ Some s) × HasType spec s a ty
-  IsSlotType x (Inc i) ty = (pairs : List Pair) × (slice_get T.includings i ≡ Some pairs) × IsListedType pairs ty × (IsEmptySet pairs → IsFirstType pairs ty)
-  IsSlotType x (Con n) ty = (k : Cons) × Contains T.constituents k × (k.number ≡ n) × (ty ≡ elim k.with [ None ↦ type.Void | Some with ↦ with.ty ])
-  IsSlotType x (Front c) ty = (d : Typed1) × Contains spec.chains d × (name_of d.name ≡ c) × (ty ≡ d.ty)
-  IsSlotType x (Behind c) ty = (d : Typed1) × Contains spec.chains d × (name_of d.name ≡ c) × (ty ≡ d.ty)
-  IsSlotType x (Msg j) ty = ty ≡ type.Text
-  IsSlotType x Out ty = ty ≡ type.Text
-
   abbrev pub is_named : Slot → Bool
   is_named (Written a) = true
   is_named (Msg j) = true
@@ -135,8 +136,8 @@ module _ (spec : Spec) (T : Tables spec) (needs : Needs spec T) (slots : ℕ →
 
   pub record IsAttribute (x : ℕ) (s : Slot) (attr : FlatAttr) : Type 0 where
     pub name : text_of env attr.name.0 ≡ slot_text s
-    pub kind : IsSlotKind x s attr.kind
-    pub ty : IsSlotType x s attr.ty
+    pub kind : IsSlotKind spec T x s attr.kind
+    pub ty : IsSlotType spec T x s attr.ty
     pub written : attr.written ≡ is_named s
     pub message : attr.message ≡ is_message_slot s
 
@@ -144,11 +145,6 @@ module _ (spec : Spec) (T : Tables spec) (needs : Needs spec T) (slots : ℕ →
   abbrev pub IsSymbolType : ℕ → Option ValueType → Type 0
   IsSymbolType s None = IsNonterminal spec s
   IsSymbolType s (Some ty) = ¬ IsNonterminal spec s × (IsTerminal spec s ty ⊎ (((other : ValueType) → ¬ IsTerminal spec s other) × (ty ≡ type.Void)))
-
-  pub record IsFlatShape (x : ℕ × RuleItem) (shape : Shape) : Type 0 where
-    pub rule : shape.rule.0 ≡ x.0
-    pub is_list : shape.list ≡ x.1.list
-    pub right : map (λ (s : SymId). s.0) shape.right ≡ map (number spec T.symbols) (right_of x.1)
 
   -- the flat grammar
   pub record IsFlat (symbols : List FlatSymbol) (flat_rules : List FlatRule) (shapes : List Shape) (root : SymId) : Type 0 where
@@ -158,6 +154,6 @@ module _ (spec : Spec) (T : Tables spec) (needs : Needs spec T) (slots : ℕ →
     pub cells : (k i : ℕ) (r : RuleItem) (y : FlatSymbol) → slice_get (lists spec T.symbols) k ≡ Some i → slice_get spec.rules i ≡ Some r → slice_get symbols (length T.symbols + k) ≡ Some y
         → (text_of env y.name.0 ≡ codes "$" ++ text_of env r.name.0) × (y.terminal ≡ None)
     pub each_rule : AllZip IsFlatRule (ruled spec T) flat_rules
-    pub each_shape : AllZip IsFlatShape (enumerated 0 spec.rules) shapes
+    pub each_shape : AllZip (IsShapeOf spec T.symbols) (enumerated 0 spec.rules) shapes
     pub message_texts : (x j : ℕ) (severity : Severity) → HasSlot spec T needs x (Msg j) → (text_of env (id_of env (label severity)) ≡ label severity) × (text_of env (id_of env line_feed) ≡ line_feed)
     pub root_symbol : (s : ℕ) × IsRoot spec s × (root.0 ≡ number spec T.symbols s)

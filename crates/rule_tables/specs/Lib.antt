@@ -6,3 +6,6 @@ pub mod Shares
 pub mod Copies
 pub mod Flat
 pub mod InForceFaults
+pub mod TablesOf
+pub mod ForcedOf
+pub mod ExtraOf

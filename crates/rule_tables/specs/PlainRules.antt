@@ -1,8 +1,10 @@
 -- Plain rules: each written rule, and for each list the rules of its cell. Symbols are numbered, cells behind the others.
-use Rattle.std.specs.Prelude.{ℕ, ◌+◌, Bool, false, nat_eq, if◌then◌else◌, List, [], ◌∷◌, ◌++◌, map, flat_map, filter, length, Option, slice_get}
+use Rattle.std.specs.Prelude.{◌≡◌, ℕ, ◌+◌, Bool, false, nat_eq, if◌then◌else◌, List, [], ◌∷◌, ◌++◌, map, flat_map, filter, length, Option, slice_get}
 use Rattle.std.specs.List.{list_any}
 use Rattle.lido_base.specs.Tree.{contains}
 use Rattle.lido_symbols.specs.Numbers.{place_in, enumerated, different}
+use Rattle.lido_base.specs.declared.ids.SymId.{SymId}
+use Rattle.flat_grammar.specs.declared.flat.Shape.{Shape}
 use Rattle.lido_syntax.specs.declared.spec.Spec.{Spec}
 use Rattle.lido_syntax.specs.declared.spec.RuleItem.{RuleItem}
 use Rattle.lido_syntax.specs.Production.{left_of, right_of}
@@ -49,6 +51,12 @@ module _ (spec : Spec) (symbols : List ℕ) where
   -- the written rules in order, then the rules of the cells, list by list
   abbrev pub plain_rules : List PlainRule
   plain_rules = map written_rule (enumerated 0 spec.rules) ++ flat_map cell_rules (enumerated 0 spec.rules)
+
+  -- the shape of the written rule of that number
+  pub record IsShapeOf (x : ℕ × RuleItem) (shape : Shape) : Type 0 where
+    pub rule : shape.rule.0 ≡ x.0
+    pub is_list : shape.list ≡ x.1.list
+    pub right : map (λ (s : SymId). s.0) shape.right ≡ map number (right_of x.1)
 
 -- a plain rule of x has y on its right side
 abbrev pub is_child : List PlainRule → ℕ → ℕ → Bool

@@ -1,8 +1,12 @@
 //! The numbers and tables of a specification, and its flat grammar, as definitions.
 #![tactic(auto)]
 
+mod extra;
+mod forced;
 mod laws;
 mod tables;
 
+pub use extra::{Extra, ExtraAttr, ExtraComp, Piece, Slot, SlotAt, Term};
+pub use forced::{Force, Forced, Goal};
 pub use laws::decided_needs;
-pub use tables::{Force, Goal, SymbolClass, SymbolRow, Tables};
+pub use tables::{SymbolClass, SymbolRow, Tables};

@@ -1,6 +1,6 @@
 //! The tables of a specification.
 use flat_grammar::{FlatAttr, FlatRule, Shape};
-use lido_base::{AttrId, List, StrId, SymId, ValueType};
+use lido_base::{List, StrId, SymId, ValueType};
 use lido_syntax::Spec;
 
 /// A specification with its symbols, attributes and plain rules.
@@ -39,31 +39,4 @@ pub enum SymbolClass {
     Class,
     /// The symbol of a list's cells.
     Cell,
-}
-
-/// A computation in force in a plain rule.
-#[derive(Clone, Copy, Debug, PartialEq, Eq)]
-pub struct Force {
-    /// The occurrence that it computes something of: 0 is the left side.
-    pub occ: u16,
-    pub goal: Goal,
-    /// The occurrence whose node is its context: 0, or the child's for an `INH` computation of the child's symbol.
-    pub context: u16,
-    /// The computation's number.
-    pub number: u32,
-}
-
-/// What a computation gives a value to. A chain is named by its place among those that are declared.
-#[derive(Clone, Copy, Debug, PartialEq, Eq)]
-pub enum Goal {
-    /// An attribute of the occurrence's symbol.
-    Attr(AttrId),
-    /// The start of a chain.
-    Start(u32),
-    /// What is behind the left side in a chain.
-    Behind(u32),
-    /// The output.
-    Out,
-    /// The message of the rule's plain computation of that number, which are counted from 1.
-    Message(u32),
 }

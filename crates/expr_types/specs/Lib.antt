@@ -1,3 +1,5 @@
 pub mod Typing
 pub mod Calls
 pub mod Computations
+pub mod Faults
+pub mod TypeFaults

@@ -13,7 +13,7 @@ use Rattle.lido_syntax.specs.Production.{name_of, left_of, right_of}
 use Rattle.lido_syntax.specs.Symbols.{IsNonterminal, IsRoot, IsChain}
 use Rattle.lido_syntax.specs.Sets.{inherits_directly}
 use Rattle.lido_syntax.specs.Attributes.{Has, HasKind}
-use Rattle.lido_syntax.specs.Computation.{Goal, Synthesized, Inherited, Start, Behind, InSymbol, HasInSymbol, HasComputation, IsLeft}
+use Rattle.lido_syntax.specs.Computation.{Goal, Synthesized, Inherited, Start, Behind, Output, Message, InSymbol, HasInSymbol, HasComputation, IsLeft}
 use Rattle.lido_symbols.specs.Numbers.{place_in}
 use Rattle.rule_tables.specs.Needs.{Tables}
 
@@ -42,13 +42,14 @@ module _ (spec : Spec) (T : Tables spec) where
   abbrev pub IsClassCycle : SpecFault → Type 0
   IsClassCycle f = (numbers : List ℕ) × (path : List StrId) × IsLeastCycle is_heir numbers × AllZip (λ x (id : StrId). slice_get T.symbols x ≡ Some id.0) numbers path × (f ≡ fault.ClassCycle path)
 
-  -- the order of goals: attributes, then starts of chains, then assignments of chains; each by number
+  -- the order of goals: attributes, starts of chains, assignments of chains, the output, messages; each by number
   abbrev pub goal_place : Goal → ℕ × ℕ
   goal_place (Synthesized a) = (0, place_in (nat_eq a) T.attributes)
   goal_place (Inherited a) = (0, place_in (nat_eq a) T.attributes)
   goal_place (Start c) = (1, place_in (nat_eq c) (map (λ d. name_of d.name) spec.chains))
   goal_place (Behind c) = (2, place_in (nat_eq c) (map (λ d. name_of d.name) spec.chains))
-  goal_place _ = (3, 0)
+  goal_place Output = (3, 0)
+  goal_place (Message j) = (4, j)
 
   -- a goal that a symbol can have in its bodies: one of its attributes, or of a chain that is declared
   abbrev pub IsGoalFor : ℕ → Goal → Type 0

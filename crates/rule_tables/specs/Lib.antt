@@ -6,6 +6,7 @@ pub mod Shares
 pub mod Copies
 pub mod Flat
 pub mod InForceFaults
+pub mod ExpansionFaults
 pub mod TablesOf
 pub mod ForcedOf
 pub mod ExtraOf

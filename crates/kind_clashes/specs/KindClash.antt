@@ -22,7 +22,6 @@ use Rattle.lido_syntax.specs.declared.spec.Expr.{Expr, Terminal, Read, Including
 use Rattle.lido_syntax.specs.Production.{name_of}
 use Rattle.lido_syntax.specs.Parts.{leaves_of}
 use Rattle.lido_syntax.specs.Symbols.{IsNonterminal, IsTerminal, IsChain}
-use Rattle.lido_syntax.specs.Sets.{names_of}
 use Rattle.lido_syntax.specs.Attributes.{uses, possible, IsOnSide, IsOwn, InBody, InText, IsDeclared, OfClass, Has}
 use Rattle.lido_symbols.specs.Classes.{IsClass}
 use Rattle.lido_symbols.specs.Uses.{is_coordinate_of_rule, production_names, declared_names}

@@ -1,1 +1,3 @@
 pub mod KindClash
+pub mod Least
+pub mod Names

@@ -1,2 +1,8 @@
 //! Names that are used or declared as two things, and the least place where one is.
 #![tactic(auto)]
+
+mod least;
+mod names;
+
+pub use least::earlier;
+pub use names::Names;

@@ -59,10 +59,6 @@ module _ (spec : Spec) (T : Tables spec) where
   IsGoalFor s (Behind c) = IsChain spec c
   IsGoalFor s _ = ⊥
 
-  -- a computation of the goal in a class that is left for the symbol
-  abbrev pub IsLeftComputation : ℕ → Goal → Comp → Type 0
-  IsLeftComputation s g c = (class : ℕ) × IsLeft spec s g class × InSymbol spec class g c
-
   -- the symbol has no computation of its own, and those of two classes are left
   pub record IsClash (s : ℕ) (g : Goal) : Type 0 where
     pub nonterminal : IsNonterminal spec s
@@ -74,12 +70,19 @@ module _ (spec : Spec) (T : Tables spec) where
     pub other_left : IsLeft spec s g other
     pub two : one ≡ other → ⊥
 
-  -- the first two of the computations that are left, by their places
+  -- a class is left for the symbol, and its computation of the goal has that place
+  abbrev pub IsLeftAt : ℕ → Goal → ℕ → ℕ → Type 0
+  IsLeftAt s g class at = (c : Comp) × IsLeft spec s g class × InSymbol spec class g c × (c.at ≡ at)
+
+  -- the places of the first two classes' computations that are left; those in one body of both classes have one place
   pub record AreFirstTwo (s : ℕ) (g : Goal) (first second : ℕ) : Type 0 where
-    pub is_first : (c : Comp) × IsLeftComputation s g c × (c.at ≡ first)
-    pub is_second : (c : Comp) × IsLeftComputation s g c × (c.at ≡ second)
-    pub in_order : first < second
-    pub no_other : (c : Comp) → IsLeftComputation s g c → (c.at ≡ first) ⊎ (second ≤ c.at)
+    pub one : ℕ
+    pub other : ℕ
+    pub is_first : IsLeftAt s g one first
+    pub is_second : IsLeftAt s g other second
+    pub two : one ≡ other → ⊥
+    pub in_order : first ≤ second
+    pub no_other : (class at : ℕ) → IsLeftAt s g class at → (class ≡ one) ⊎ (second ≤ at)
 
   -- ClashInherited: at the least nonterminal, and at its least goal
   pub record IsClashInherited (f : SpecFault) : Type 0 where

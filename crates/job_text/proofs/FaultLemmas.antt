@@ -109,3 +109,11 @@ only_fault ws index kind first (Err fault.Memory) p = absurd p
 
 pub gives_fault : (ws : List (List ℕ)) (index : ℕ) (kind : WordKind) → IsFirstFault ws index kind → IsThe (WordsOf ws) (Err (fault.Words index kind))
 gives_fault ws index kind first = record { is = first; only = only_fault ws index kind first }
+
+-- words say one thing
+pub one_command : (ws : List (List ℕ)) (first second : Result Command WordsFault) → WordsOf ws first → WordsOf ws second → first ≡ second
+one_command ws (Ok c) (Ok d) p q = ap Ok (same_Some c d (sym p.is ∙ q.is))
+one_command ws (Ok c) (Err (fault.Words i kind)) p q = absurd (none-some kind (sym (p.right i) ∙ q.wrong))
+one_command ws (Ok c) (Err fault.Memory) p q = absurd q
+one_command ws (Err (fault.Words i kind)) second p q = sym (only_fault ws i kind p second q)
+one_command ws (Err fault.Memory) second p q = absurd p

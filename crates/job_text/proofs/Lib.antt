@@ -1,4 +1,5 @@
-mod FaultLemmas
+pub mod CuttingLemmas
+pub mod FaultLemmas
 mod FormLemmas
 mod GeneratedLemmas
 mod NumberLemmas

@@ -5,6 +5,7 @@ mod command_line;
 mod cutting;
 mod forms;
 mod generator;
+pub mod laws;
 
 pub use command_line::{Command, RunWords, WordsFault, words};
 pub use cutting::{CutFault, Sections, Span, cut};

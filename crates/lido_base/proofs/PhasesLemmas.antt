@@ -1,6 +1,6 @@
 -- What phases in a row give, and phases that say the same.
-use Rattle.std.proofs.Common.{◌≡◌, Result, Ok, Err, refl, ap, ◌∙◌, subst, inl, inr, ⊎_elim}
-use Rattle.lido_base.specs.Phases.{IsThe, Then, OneOf, the_one, the_none}
+use Rattle.std.proofs.Common.{◌≡◌, Result, Ok, Err, refl, ap, sym, ◌∙◌, subst, inl, inr, ⊎_elim}
+use Rattle.lido_base.specs.Phases.{IsThe, Then, OneOf, Wrapped, the_one, the_none}
 
 -- after a value comes what the next phase gives
 pub the_next : {A B S : Type 0} (p : Result A S → Type 0) (q : A → Result B S → Type 0) (a : A) (r : Result B S) → IsThe p (Ok a) → IsThe (q a) r → IsThe (Then p q) r
@@ -42,3 +42,36 @@ none_as P refusal e other the = the_none P other other refl the.is.1
 pub refusal_is : {A F : Type 0} (P : A → Type 0) (refusal e : F) → IsThe (OneOf P refusal) (Err e) → e ≡ refusal
 unfolding OneOf
 refusal_is P refusal e the = the.is.0
+
+-- ---- phases that give one thing at most
+
+abbrev pub IsSingle : {A F : Type 0} → (Result A F → Type 0) → Type 0
+IsSingle {A} {F} p = (r s : Result A F) → p r → p s → r ≡ s
+
+-- a phase, and what it goes on with behind a value that it gives
+pub single_then : {A B S : Type 0} (p : Result A S → Type 0) (q : A → Result B S → Type 0) → IsSingle p → ((a : A) → p (Ok a) → IsSingle (q a)) → IsSingle (Then p q)
+single_then p q one next r s (inl (a, is, given)) (inl (b, other, too)) =
+    let same : a ≡ b = (let e = one (Ok a) (Ok b) is other in cc) in
+    next b other r s (subst (λ x. q x r) same given) too
+single_then p q one next r s (inl (a, is, given)) (inr (t, other, stops)) = absurd (let e = one (Ok a) (Err t) is other in cc)
+single_then p q one next r s (inr (t, is, stops)) (inl (b, other, too)) = absurd (let e = one (Err t) (Ok b) is other in cc)
+single_then p q one next r s (inr (t, is, stops)) (inr (u, other, too)) =
+    let same : t ≡ u = (let e = one (Err t) (Err u) is other in cc) in
+    stops ∙ ap (λ x. Err x) same ∙ sym too
+
+-- a phase with its faults seen as those of the whole
+pub single_wrapped : {A F S : Type 0} (wrap : F → S) (p : Result A F → Type 0) → IsSingle p → IsSingle (Wrapped wrap p)
+single_wrapped wrap p one (Ok a) (Ok b) is other = let same : a ≡ b = (let e = one (Ok a) (Ok b) is other in cc) in ap (λ x. Ok x) same
+single_wrapped wrap p one (Ok a) (Err t) is (f, other, told) = absurd (let e = one (Ok a) (Err f) is other in cc)
+single_wrapped wrap p one (Err t) (Ok b) (f, is, told) other = absurd (let e = one (Err f) (Ok b) is other in cc)
+single_wrapped wrap p one (Err t) (Err u) (f, is, told) (g, other, too) =
+    let same : f ≡ g = (let e = one (Err f) (Err g) is other in cc) in
+    ap (λ x. Err x) (told ∙ ap wrap same ∙ sym too)
+
+-- the one value of which something is true, or a refusal
+pub single_one_of : {A F : Type 0} (P : A → Type 0) (refusal : F) → ((a b : A) → P a → P b → a ≡ b) → IsSingle (OneOf P refusal)
+unfolding OneOf
+single_one_of P refusal one (Ok a) (Ok b) is other = ap (λ x. Ok x) (one a b is other)
+single_one_of P refusal one (Ok a) (Err t) is (told, none) = absurd (none a is)
+single_one_of P refusal one (Err t) (Ok b) (told, none) other = absurd (none b other)
+single_one_of P refusal one (Err t) (Err u) (told, none) (too, nothing) = ap (λ x. Err x) (told ∙ sym too)

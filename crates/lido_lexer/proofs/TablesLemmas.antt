@@ -6,7 +6,7 @@ use Rattle.std.proofs.lemmas.Option.{slice_get-get_or, unwrap_or-slice_get}
 use Rattle.lido_base.specs.Phases.{IsThe}
 use Rattle.lido_base.specs.Texts.{IsDistinctTexts, Gains, interned}
 use Rattle.lido_base.specs.declared.ids.StrId.{StrId}
-use Rattle.lido_base.proofs.TextsLemmas.{same_place}
+use Rattle.lido_base.proofs.TextsLemmas.{same_place, interned_distinct}
 pub use Rattle.lido_base.proofs.TextsLemmas.{interned_none, interned_one, interned_append, text_added}
 use Rattle.lido_lexer.specs.Tokens.{shown_kind}
 use Rattle.lido_lexer.specs.Lexing.{Placed, Lexing, HasText, IsCutInto, shown_in}
@@ -132,3 +132,12 @@ pub unread_is : (texts : List (List ℕ)) (bytes : List ℕ) (at : ℕ) {tokens 
     → IsCutInto (length bytes) bytes tokens stuck → stuck ≡ Some at → IsThe (LexedFrom texts bytes) (Err (fault.Lexical at))
 unfolding Lexing
 unread_is texts bytes at cut is = stuck_from texts bytes (fault.Lexical at) (cut_stuck at cut is)
+
+-- a text has one table behind it and one list of tokens, or one fault
+pub one_table_and_tokens : (texts : List (List ℕ)) (bytes : List ℕ) → IsDistinctTexts texts → (first second : Result (List (List ℕ) × List Token) LexFault)
+    → LexedFrom texts bytes first → LexedFrom texts bytes second → first ≡ second
+unfolding LexedFrom
+one_table_and_tokens texts bytes distinct (Ok (later, tokens)) second a b =
+    let still = subst IsDistinctTexts (sym a.table) (interned_distinct texts (texts_in (map (shown_in later) tokens)) distinct) in
+    sym (lexed_only texts bytes later tokens still a second b)
+one_table_and_tokens texts bytes distinct (Err e) second a b = sym (fault_only texts bytes e a second b)

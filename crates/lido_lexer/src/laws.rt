@@ -10,11 +10,20 @@ ghost use Rattle.lido_lexer.specs.Keywords.{keyword_spelling, keyword_of};
 ghost use Rattle.lido_lexer.specs.Signs.{sign_spelling, sign_of};
 ghost use Rattle.lido_lexer.specs.Tokens.{Shown, IsFront};
 ghost use Rattle.lido_lexer.specs.Lexing.{Placed, HasText, Lexes, IsCutInto, IsStuck, Lexing, shown_in};
+ghost use Rattle.lido_lexer.specs.Tables.{LexedFrom};
 
 /// A text has one list of tokens at most, or is stuck at one place at most, and never both.
 pub fn one_answer()
     ensures { (text : List ℕ) (first second : Result (List Placed) LexFault)
         → Lexing text first → Lexing text second → first ≡ second }
+{}
+
+/// Behind a table of distinct texts, a text has one later table and one list of tokens at most, or is stuck at one place at most, and
+/// never both.
+pub fn one_table_and_tokens()
+    ensures { (texts : List (List ℕ)) (text : List ℕ) → IsDistinctTexts texts
+        → (first second : Result (List (List ℕ) × List Token) LexFault)
+        → LexedFrom texts text first → LexedFrom texts text second → first ≡ second }
 {}
 
 /// The tokens in front of a text are settled, and the place where no more can be formed, if there is one.

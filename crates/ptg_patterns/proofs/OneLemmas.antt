@@ -6,6 +6,7 @@ use Rattle.lido_base.specs.Reading.{Begins, IsFaultPlace}
 use Rattle.lido_base.specs.Phases.{IsThe}
 use Rattle.lido_base.specs.Texts.{IsDistinctTexts, interned}
 use Rattle.lido_base.specs.declared.pattern.Pattern.{Pattern}
+use Rattle.lido_base.proofs.TextsLemmas.{interned_distinct}
 use Rattle.lido_lexer.specs.Lexing.{Placed}
 use Rattle.lido_lexer.specs.declared.token.Token.{Token}
 use Rattle.lido_lexer.specs.Tables.{texts_in}
@@ -156,7 +157,7 @@ is_the texts bytes tokens stuck r distinct are reads = record {
 
 -- ---- one table
 
-one_table : (texts : List (List ℕ)) (bytes : List ℕ) (later other : List (List ℕ)) → IsTableBehind texts bytes later → IsTableBehind texts bytes other → other ≡ later
+pub one_table : (texts : List (List ℕ)) (bytes : List ℕ) (later other : List (List ℕ)) → IsTableBehind texts bytes later → IsTableBehind texts bytes other → other ≡ later
 one_table texts bytes later other a b = b.table ∙ ap (λ (l : List Placed). interned texts (texts_in l)) (one_cut b.cut a.cut).0 ∙ sym a.table
 
 -- what a text says with the ids of the table behind it is what it says behind these texts
@@ -166,3 +167,17 @@ from_is texts bytes later r table the = record {
   is = record { later = later; table = table; says = the.is };
   only = λ s from. the.only s (subst (λ (l : List (List ℕ)). PatternsOf l bytes s) (one_table texts bytes later from.later table from.table) from.says);
 }
+
+-- ---- one answer for a text
+
+one_answer : (texts : List (List ℕ)) (bytes : List ℕ) → IsDistinctTexts texts → (first second : Result (List Pattern) PtgFault)
+    → PatternsOf texts bytes first → PatternsOf texts bytes second → first ≡ second
+unfolding PatternsOf
+one_answer texts bytes distinct first second (tokens, stuck, are, reads) other = sym ((is_the texts bytes tokens stuck first distinct are reads).only second other)
+
+pub one_list_of_patterns : (texts : List (List ℕ)) (bytes : List ℕ) → IsDistinctTexts texts → (first second : Result (List Pattern) PtgFault)
+    → PatternsFrom texts bytes first → PatternsFrom texts bytes second → first ≡ second
+one_list_of_patterns texts bytes distinct first second a b =
+    let still = subst IsDistinctTexts (sym a.table.table) (interned_distinct texts (texts_in a.table.tokens) distinct) in
+    let says = subst (λ (l : List (List ℕ)). PatternsOf l bytes second) (one_table texts bytes a.later b.later a.table b.table) b.says in
+    one_answer a.later bytes still first second a.says says

@@ -4,6 +4,7 @@
 mod arguments;
 mod fault;
 mod function;
+pub mod laws;
 mod marks;
 mod patterns;
 mod reading;

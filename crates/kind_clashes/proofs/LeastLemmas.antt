@@ -71,3 +71,6 @@ first-end {X} {Q} {xs} {i} {a} all first = first-same
     (λ at h. record { item = h.item; among = place-contains xs h.place h.item h.got; is = h.is })
     (λ at h. let p = contains-place xs h.item h.among in record { place = p.0; item = h.item; below = (let lt = slice_get_within xs p.0 h.item p.1 in omega (arith, lt, all)); got = p.1; is = h.is })
     first
+
+pub first-at : {X : Type 0} {Q : X → ℕ → Type 0} {xs ys : List X} {a : Option ℕ} → xs ≡ ys → IsFirst (Among Q xs) a → IsFirst (Among Q ys) a
+first-at {X} {Q} {xs} {ys} {a} e first = subst (λ (zs : List X). IsFirst (Among Q zs) a) e first

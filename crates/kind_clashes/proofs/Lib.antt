@@ -1,2 +1,3 @@
 pub mod LeastLemmas
 pub mod NamesLemmas
+pub mod SetsLemmas

@@ -85,3 +85,6 @@ names-among names more = more-same
     (λ id h. subst (λ q. Contains (map name_of names) q) h.is (map-contains name_of names h.item h.among))
     (λ id h. let p = contains-map name_of names id h in record { item = p.0; among = p.1; is = p.2 })
     more
+
+pub more-at : {X : Type 0} {Q : X → ℕ → Type 0} {xs ys : List X} {a b : Names} → xs ≡ ys → HasMore (Among Q xs) a b → HasMore (Among Q ys) a b
+more-at {X} {Q} {xs} {ys} {a} {b} e more = subst (λ (zs : List X). HasMore (Among Q zs) a b) e more

@@ -1,3 +1,4 @@
 pub mod KindClash
 pub mod Least
 pub mod Names
+pub mod Sets

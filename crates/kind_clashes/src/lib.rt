@@ -3,6 +3,8 @@
 
 mod least;
 mod names;
+mod sets;
 
 pub use least::earlier;
 pub use names::Names;
+pub use sets::NameSets;

@@ -1,0 +1,10 @@
+use Rattle.std.proofs.Common.{◌≡◌}
+use Rattle.lido_syntax.specs.declared.spec.RuleItem.{RuleItem}
+use Rattle.lido_syntax.specs.Production.{left_of}
+use Rattle.kind_clashes.specs.Names.{HasMore}
+use Rattle.kind_clashes.proofs.LeastLemmas.{AmongFirst}
+use Rattle.kind_clashes.proofs.sets.add_left_sides.Given as goal
+
+-- the names so far were added
+abbrev pub invariant-loop-rule : goal.invariant-loop-rule
+invariant-loop-rule l = HasMore (AmongFirst (λ (r : RuleItem) s. left_of r ≡ s) l.rules l.rule-index) l.initial.names l.names

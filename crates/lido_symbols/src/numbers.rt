@@ -1,0 +1,33 @@
+//! Numbers by first place.
+ghost use Rattle.std.specs.Prelude.{◌≡◌, ◌∷◌, [], nat_eq, map, length, IfOk, OnOk, Contains};
+ghost use Rattle.std.specs.List.Sorted.{IsNonDecreasingBy};
+ghost use Rattle.lido_syntax.specs.declared.spec.Name.{Name as Named};
+ghost use Rattle.lido_symbols.specs.Numbers.{AreNumbered};
+ghost use Rattle.lido_symbols.specs.Uses.{with_place};
+
+use crate::Names;
+use lido_base::Memory;
+use lido_syntax::Name;
+use std::alloc::Global;
+
+/// The names of the uses, in their order, each once.
+fn in_order(alloc: Global, uses: &[Name]) -> Result<Names, Memory>
+    requires told { (x y : Named) → Contains uses.now x → Contains uses.now y → x.at ≡ y.at → x ≡ y }
+    requires sorted { IsNonDecreasingBy (λ (x : Named). x.at) uses.now }
+    ensures { IfOk result (AreNumbered nat_eq (map with_place uses.now)) }
+{
+    let mut names = Names::new(alloc);
+    for name in uses {
+        names.add(name.id)?;
+    }
+    Ok(names)
+}
+
+/// The names that are used, each once, by the places where they first stand. A place tells its name.
+pub fn numbered(alloc: Global, mut uses: Vec<Name>) -> Result<Names, Memory>
+    requires { (x y : Named) → Contains uses.items x → Contains uses.items y → x.at ≡ y.at → x ≡ y }
+    ensures { IfOk result (AreNumbered nat_eq (map with_place uses.items)) }
+{
+    uses.sort_by_key(|name| name.at)?;
+    in_order(alloc, &uses)
+}

@@ -74,3 +74,11 @@ first-end {X} {Q} {xs} {i} {a} all first = first-same
 
 pub first-at : {X : Type 0} {Q : X → ℕ → Type 0} {xs ys : List X} {a : Option ℕ} → xs ≡ ys → IsFirst (Among Q xs) a → IsFirst (Among Q ys) a
 first-at {X} {Q} {xs} {ys} {a} e first = subst (λ (zs : List X). IsFirst (Among Q zs) a) e first
+
+-- of either of two, where the answer is the earlier of theirs
+pub first-join : {P Q : ℕ → Type 0} {a b r : Option ℕ} → r ≡ earlier_of a b → IsFirst P a → IsFirst Q b → IsFirst (λ at. P at ⊎ Q at) r
+first-join {P} {Q} {a} {b} e p q = subst (λ r. IsFirst (λ at. P at ⊎ Q at) r) (sym e) (first-or a b p q)
+
+-- what is so under a condition that holds
+pub first-if : {P : ℕ → Type 0} {T : Type 0} {a : Option ℕ} → T → IsFirst P a → IsFirst (λ at. T × P at) a
+first-if holds first = first-same (λ at p. (holds, p)) (λ at h. h.1) first

@@ -2,3 +2,4 @@ pub mod KindClash
 pub mod Least
 pub mod Names
 pub mod Sets
+pub mod Symbols

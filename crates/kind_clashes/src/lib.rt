@@ -4,7 +4,9 @@
 mod least;
 mod names;
 mod sets;
+mod symbols;
 
 pub use least::earlier;
 pub use names::Names;
 pub use sets::NameSets;
+pub use symbols::{class_in_productions, inherits_no_class, terminal_in_lists};

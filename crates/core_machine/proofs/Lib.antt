@@ -16,3 +16,8 @@ pub mod Finals
 pub mod KeyLemmas
 pub mod RegionWalks
 pub mod JoinedSegments
+pub mod CursorLists
+pub mod CursorPaths
+pub mod CursorMoves
+pub mod CursorReads
+pub mod CursorSteps

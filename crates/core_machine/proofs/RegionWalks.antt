@@ -42,7 +42,7 @@ use Rattle.flat_grammar.specs.declared.plan.VisitClass.{VisitClass}
 use Rattle.flat_grammar.proofs.SoundPlanLemmas.{at-place, at-end}
 use Rattle.core_machine.proofs.Jobs.{grown, in-order}
 
-one-index : (xs : List ℕ) → AllPairs (λ x y. x < y) xs → (i k s : ℕ) → slice_get xs i ≡ Some s → slice_get xs k ≡ Some s → i ≡ k
+pub one-index : (xs : List ℕ) → AllPairs (λ x y. x < y) xs → (i k s : ℕ) → slice_get xs i ≡ Some s → slice_get xs k ≡ Some s → i ≡ k
 one-index xs h i k s e f = go (cases_order i k)
   where
     at-index : (m : ℕ) → slice_get xs m ≡ Some s → get_or xs m 0 ≡ s
@@ -53,7 +53,7 @@ one-index xs h i k s e f = go (cases_order i k)
     go (inr (inl l)) = let w = slice_get_within xs k s f in let x = h i k 0 l (omega (arith, w)) in let y = at-index i e in let z = at-index k f in absurd (omega (arith, x, y, z))
     go (inr (inr l)) = let w = slice_get_within xs i s e in let x = h k i 0 l (omega (arith, w)) in let y = at-index i e in let z = at-index k f in absurd (omega (arith, x, y, z))
 
-contains-true : (xs : List ℕ) (k s : ℕ) → slice_get xs k ≡ Some s → contains s xs ≡ true
+pub contains-true : (xs : List ℕ) (k s : ℕ) → slice_get xs k ≡ Some s → contains s xs ≡ true
 contains-true [] k s e = absurd (none-some _ e)
 contains-true (x ∷ xs) zero s e = rw (eq-eqb s x (sym (held e))) refl
 contains-true (x ∷ xs) (suc k) s e = go (eqb s x) (contains-true xs k s e)
@@ -173,7 +173,7 @@ module _ (j : Task) where
             mine-append r (item_order j.flat j.seqs (order j.flat j.seqs) n item) (flat_map (item_order j.flat j.seqs (order j.flat j.seqs) n) some)
             ∙ (λ i. one q at later item (m item (contains-first item some)) i ++ along q at later some (λ x z. m x (contains-later item x some z)) i)
 
-    region-split : (n : ℕ) → contains n j.nodes ≡ true → region j.flat j.nodes n ≡ number_among j.nodes n
+    pub region-split : (n : ℕ) → contains n j.nodes ≡ true → region j.flat j.nodes n ≡ number_among j.nodes n
     region-split n is = rw is refl
 
     -- the region of what stands at a split node or below begins there or below
@@ -187,7 +187,7 @@ module _ (j : Task) where
         go (inr a) upper l = (upper.0, upper.1, upper.2, region-parent j.flat tree j.nodes m p e a ∙ upper.3)
 
     -- the region of a node is the first, or begins there or above
-    above-split : (fuel n : ℕ) → n < fuel → (region j.flat j.nodes n ≡ 0) ⊎ ((s : ℕ) × (contains s j.nodes ≡ true) × SubOf s n × (region j.flat j.nodes n ≡ number_among j.nodes s))
+    pub above-split : (fuel n : ℕ) → n < fuel → (region j.flat j.nodes n ≡ 0) ⊎ ((s : ℕ) × (contains s j.nodes ≡ true) × SubOf s n × (region j.flat j.nodes n ≡ number_among j.nodes s))
     above-split zero n h = absurd (omega (arith, h))
     above-split (suc fuel) n h = go (cases_Bool (contains n j.nodes)) (parent_of j.flat n) refl (λ p l. above-split fuel p (omega (arith, h, l)))
       where
@@ -208,7 +208,7 @@ module _ (j : Task) where
         held (sym p.there ∙ ap (λ z. slice_get j.nodes z) same ∙ q.there)
 
     -- a split node's subtree has no node of the region in which its parent is
-    split-away : (r n c : ℕ) → parent_of j.flat c ≡ Some n → contains c j.nodes ≡ true → region j.flat j.nodes n ≡ r → Away r c
+    pub split-away : (r n c : ℕ) → parent_of j.flat c ≡ Some n → contains c j.nodes ≡ true → region j.flat j.nodes n ≡ r → Away r c
     split-away r n c e is within m s same =
         let b = below-split c m is s in let l = parent_before j.flat tree c n e in
         let p = place 1 j.nodes b.0 b.1 in let f = p.number in
@@ -290,7 +290,7 @@ module _ (j : Task) where
         let h = All-contains (λ n. (0 < n) × (n < length j.flat)) j.nodes 0 task.nodes_inside (contains-slice_get j.nodes p.index 0 p.there) in
         let l = h.0 in absurd (omega (arith, l))
 
-    region-of-root : region j.flat j.nodes 0 ≡ 0
+    pub region-of-root : region j.flat j.nodes 0 ≡ 0
     region-of-root = elim (cases_Bool (contains 0 j.nodes)) [
       | inl is ↦ absurd (no-split-root is)
       | inr not ↦ ap (λ l. number_found j.nodes (find (λ m. contains m j.nodes) (0 ∷ l))) (ancestors-root j.flat 0 tree.root_first) ∙ rw not refl

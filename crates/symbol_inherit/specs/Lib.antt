@@ -1,0 +1,4 @@
+pub mod Aims
+pub mod Rows
+pub mod Notes
+pub mod Index

@@ -1,0 +1,8 @@
+//! The computations in force in the plain rules of a specification: a rule's own, a symbol's own, and those that a symbol
+//! inherits from its classes.
+#![tactic(auto)]
+
+mod aims;
+mod index;
+mod notes;
+mod numbers;

@@ -6,7 +6,7 @@ use Rattle.std.specs.Str.{bytes_eq}
 use Rattle.std.proofs.lemmas.Slice.Eq.{bytes_eq-Decides}
 use Rattle.lido_base.specs.Reading.{Finds, nothing}
 use Rattle.lido_base.specs.Texts.{with_text, IsDistinctTexts}
-use Rattle.lido_base.proofs.TextsLemmas.{IsDistinct-with_text}
+use Rattle.lido_base.proofs.TextsLemmas.{interned_distinct}
 use Rattle.lido_lexer.specs.Lexing.{Gains}
 use Rattle.lido_lexer.specs.Seen.{Sees, token, Keys}
 use Rattle.lido_lexer.specs.declared.keyword.Keyword.TheVariants as key
@@ -30,12 +30,6 @@ pub interned_gains : (texts added : List (List ℕ)) → Gains texts (interned t
 unfolding interned
 interned_gains texts [] = gains_none texts
 interned_gains texts (text ∷ added) = gains_more (gains_text texts text) (interned_gains (with_text texts text) added)
-
--- no text stands twice
-pub interned_distinct : (texts added : List (List ℕ)) → IsDistinctTexts texts → IsDistinctTexts (interned texts added)
-unfolding interned
-interned_distinct texts [] d = d
-interned_distinct texts (text ∷ added) d = interned_distinct (with_text texts text) added (IsDistinct-with_text texts text d)
 
 -- ---- texts that stand among others
 

@@ -7,6 +7,7 @@ pub mod BodiesLemmas
 pub mod SymbolsLemmas
 pub mod ItemsLemmas
 pub mod WholeLemmas
+pub mod ReadingsLemmas
 pub mod AddedLemmas
 pub mod SilentLemmas
 pub mod SureLemmas

@@ -59,7 +59,7 @@ module _ {T : Type 0} (L : List T → Type 0) where
 -- ---- what the whole reading is, and nothing else
 
 module _ (texts : List (List ℕ)) (ts : List Token) (text_end : ℕ) where
-  only_fault : (k at : ℕ) → IsFaultPlace (IsSpecification texts) ts k → at ≡ place_of text_end (drop k ts) → (r : Result Spec ReadSpecFault) → IsReading texts ts text_end r → r ≡ Err (Syntax at)
+  pub only_fault : (k at : ℕ) → IsFaultPlace (IsSpecification texts) ts k → at ≡ place_of text_end (drop k ts) → (r : Result Spec ReadSpecFault) → IsReading texts ts text_end r → r ≡ Err (Syntax at)
   only_fault k at f e (Ok spec) p = absurd (no_fault (IsSpecification texts) ts k (spec, p) f)
   only_fault k at f e (Err (Syntax other)) (j, g, d) =
       let same : j ≡ k = one_fault (IsSpecification texts) ts k j f g in
@@ -69,7 +69,7 @@ module _ (texts : List (List ℕ)) (ts : List Token) (text_end : ℕ) where
   fault_reading : (k at : ℕ) → IsFaultPlace (IsSpecification texts) ts k → at ≡ place_of text_end (drop k ts) → IsThe (IsReading texts ts text_end) (Err (Syntax at))
   fault_reading k at f e = record { is = (k, f, e); only = only_fault k at f e }
 
-  only_spec : (spec : Spec) → IsSpecOf texts ts spec → ((other : Spec) → IsSpecOf texts ts other → other ≡ spec) → (r : Result Spec ReadSpecFault) → IsReading texts ts text_end r → r ≡ Ok spec
+  pub only_spec : (spec : Spec) → IsSpecOf texts ts spec → ((other : Spec) → IsSpecOf texts ts other → other ≡ spec) → (r : Result Spec ReadSpecFault) → IsReading texts ts text_end r → r ≡ Ok spec
   only_spec spec q only (Ok other) p = ap (λ (s : Spec). Ok s) (only other p)
   only_spec spec q only (Err (Syntax at)) (k, f, e) = absurd (no_fault (IsSpecification texts) ts k (spec, q) f)
   only_spec spec q only (Err Memory) p = absurd p

@@ -3,3 +3,4 @@ pub mod Least
 pub mod Names
 pub mod Sets
 pub mod Symbols
+pub mod Comps

@@ -17,3 +17,7 @@ pub record AreNameSets (spec : Spec) (sets : NameSets) : Type 0 where
 
 abbrev pub is_terminal_in : NameSets → ℕ → Bool
 is_terminal_in sets s = not (has sets.nonterminals s) && (has sets.declared s || has sets.right_sides s)
+
+-- a terminal, and no class
+abbrev pub is_plain_terminal_in : NameSets → ℕ → Bool
+is_plain_terminal_in sets s = is_terminal_in sets s && not (has sets.classes s)

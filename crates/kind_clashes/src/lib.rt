@@ -1,11 +1,13 @@
 //! Names that are used or declared as two things, and the least place where one is.
 #![tactic(auto)]
 
+mod comps;
 mod least;
 mod names;
 mod sets;
 mod symbols;
 
+pub use comps::{body_clash, comp_clash};
 pub use least::earlier;
 pub use names::Names;
 pub use sets::NameSets;

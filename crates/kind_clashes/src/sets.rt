@@ -8,7 +8,7 @@ ghost use Rattle.lido_syntax.specs.Production.{name_of, left_of, symbol_of};
 ghost use Rattle.lido_syntax.specs.Sets.{names_of};
 ghost use Rattle.kind_clashes.specs.Least.{Among};
 ghost use Rattle.kind_clashes.specs.Names.{HasMore};
-ghost use Rattle.kind_clashes.specs.Sets.{AreNameSets, is_terminal_in};
+ghost use Rattle.kind_clashes.specs.Sets.{AreNameSets, is_plain_terminal_in, is_terminal_in};
 
 use crate::names::Names;
 use lido_base::{Memory, StrId};
@@ -122,5 +122,12 @@ impl NameSets {
         ensures { result ≡ is_terminal_in self.now id.0 }
     {
         !self.nonterminals.has(id) && (self.declared.has(id) || self.right_sides.has(id))
+    }
+
+    /// Whether the name is a terminal and no class.
+    pub fn is_plain_terminal(&self, id: StrId) -> bool
+        ensures { result ≡ is_plain_terminal_in self.now id.0 }
+    {
+        self.is_terminal(id) && !self.classes.has(id)
     }
 }

@@ -1,0 +1,27 @@
+-- The occurrences of a rule as a table by the names of their symbols.
+use Rattle.std.specs.Prelude.{◌≡◌, ℕ, Bool, false, nat_eq, List, [], map, option_map, unwrap_or}
+use Rattle.std.specs.Global.{Vec}
+use Rattle.std.specs.HashMap as table
+use Rattle.lido_base.specs.declared.ids.StrId.{StrId}
+use Rattle.lido_syntax.specs.declared.spec.RuleItem.{RuleItem}
+use Rattle.lido_syntax.specs.declared.spec.Element.{Element}
+use Rattle.lido_syntax.specs.declared.spec.Element.TheVariants.{Symbol, Literal}
+use Rattle.lido_syntax.specs.Production.{name_of, production, places_from}
+use Rattle.lido_symbols.specs.declared.production.Production.{Production}
+
+abbrev pub numbers : List StrId → List ℕ
+numbers = map (λ (s : StrId). s.0)
+
+-- the occurrences of a symbol, from left to right
+unfoldable pub row_of : Production → ℕ → List ℕ
+row_of p x = unwrap_or (option_map (λ (v : Vec ℕ). v.items) (table.get nat_eq p.places x)) []
+
+-- It has the occurrences that a computation of the rule can name.
+pub record IsProductionOf (r : RuleItem) (p : Production) : Type 0 where
+  pub list : p.list ≡ r.list
+  pub rows : (x : ℕ) → row_of p x ≡ places_from 0 x (production r)
+
+-- a test that the element is the symbol of that name
+abbrev pub names_symbol : ℕ → Element → Bool
+names_symbol x (Symbol n) = nat_eq x (name_of n)
+names_symbol x (Literal s) = false

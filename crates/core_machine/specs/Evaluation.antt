@@ -7,8 +7,10 @@ use Rattle.lido_base.specs.declared.value.ValueType.TheVariants as type
 use Rattle.lido_base.specs.declared.pattern.Pattern.{Pattern}
 use Rattle.lido_base.specs.Tree.{Tree, Item, Leaf, item_at, coordinate}
 use Rattle.string_librarian.specs.Rooms.{Deposit}
-use Rattle.value_ops.specs.Outcome.{first_bad}
-use Rattle.value_ops.specs.Results.{result_of}
+pub use Rattle.expression_values.specs.Evaluate.{last_value, in_order, in_turn, decided}
+use Rattle.expression_values.specs.Evaluate.{evaluate as value_of, evaluate_all as values_of, evaluate_if as if_of, evaluate_at as branch_of}
+use Rattle.lido_base.specs.declared.kinds.CoordPart.{CoordPart}
+use Rattle.flat_grammar.specs.declared.flat.Occ.{Occ}
 use Rattle.flat_grammar.specs.declared.flat.FlatAttr.{FlatAttr}
 use Rattle.flat_grammar.specs.declared.flat.FlatExpr.{FlatExpr, Value as Constant, Terminal, Read, Coord, Apply', If', Order', Row_of-FlatExpr, end_of-FlatExpr, more_of-FlatExpr}
 use Rattle.flat_grammar.specs.WholeOrder.{Instance}
@@ -19,53 +21,30 @@ abbrev pub leaf_value : Option (Item Value) → Value
 leaf_value (Some (Leaf v)) = v
 leaf_value _ = value.Void
 
--- the last of the values
-abbrev pub last_value : List Value → Value
-last_value [] = value.Void
-last_value (v ∷ []) = v
-last_value (v ∷ w ∷ vs) = last_value (w ∷ vs)
-
--- the first Bad, or else the last
-abbrev pub in_order : List Value → Value
-in_order vs = elim (first_bad vs) [ None ↦ last_value vs | Some o ↦ value.Bad o ]
-
--- the same, in the room that was left
-abbrev pub in_turn : List Value × List Deposit → Value × List Deposit
-in_turn (vs, ds) = (in_order vs, ds)
-
--- the branch that the condition chooses, counted from 0, in the room that the condition left
-abbrev pub decided : (ℕ → List Deposit → Value × List Deposit) → Value × List Deposit → Value × List Deposit
-decided branch (value.Bad o, ds) = (value.Bad o, ds)
-decided branch (value.Bool true, ds) = branch 0 ds
-decided branch (value.Bool false, ds) = branch 1 ds
-decided branch (_, ds) = (value.Void, ds)
-
 -- For a computation at node n of a region: the number of its room, the tree, the written node of what fails, the node of origin,
 -- and the values of instances.
 module _ (texts : List (List ℕ)) (patterns : List Pattern) (number : ℕ) (t : Tree Value) (written origin n : ℕ) (values : Instance → Value) where
-  abbrev mutual
-    -- the value of an expression, and the deposits behind it
-    pub evaluate : FlatExpr → List Deposit → Value × List Deposit
-    evaluate (Constant v) ds = (v, ds)
-    evaluate (Terminal k) ds = (leaf_value (item_at t n k), ds)
-    evaluate (Read o) ds = (values (instance_at t n o), ds)
-    evaluate (Coord part) ds = (value.Int (pos (coordinate t origin part)), ds)
-    evaluate (Apply' comp op shape args) ds = let a = evaluate_all args ds in result_of texts patterns number written comp op a.0 a.1
-    evaluate (If' shape args) ds = evaluate_if args ds
-    evaluate (Order' shape args) ds = in_turn (evaluate_all args ds)
+  abbrev leaf : ℕ → Value
+  leaf k = leaf_value (item_at t n k)
 
-    pub evaluate_all : {m : _} → Row_of-FlatExpr m → List Deposit → List Value × List Deposit
-    evaluate_all end_of-FlatExpr ds = ([], ds)
-    evaluate_all (more_of-FlatExpr e es) ds = let a = evaluate e ds in let b = evaluate_all es a.1 in (a.0 ∷ b.0, b.1)
+  abbrev read : Occ → Value
+  read o = values (instance_at t n o)
 
-    pub evaluate_if : {m : _} → Row_of-FlatExpr m → List Deposit → Value × List Deposit
-    evaluate_if end_of-FlatExpr ds = (value.Void, ds)
-    evaluate_if (more_of-FlatExpr e es) ds = decided (λ k room. evaluate_at es k room) (evaluate e ds)
+  abbrev coord : CoordPart → ℕ
+  coord part = coordinate t origin part
 
-    pub evaluate_at : {m : _} → Row_of-FlatExpr m → ℕ → List Deposit → Value × List Deposit
-    evaluate_at end_of-FlatExpr k ds = (value.Void, ds)
-    evaluate_at (more_of-FlatExpr e es) zero ds = evaluate e ds
-    evaluate_at (more_of-FlatExpr e es) (suc k) ds = evaluate_at es k ds
+  -- the value of an expression, and the deposits behind it
+  abbrev pub evaluate : FlatExpr → List Deposit → Value × List Deposit
+  evaluate = value_of texts patterns number written leaf read coord
+
+  abbrev pub evaluate_all : {m : _} → Row_of-FlatExpr m → List Deposit → List Value × List Deposit
+  evaluate_all {m} es ds = values_of texts patterns number written leaf read coord es ds
+
+  abbrev pub evaluate_if : {m : _} → Row_of-FlatExpr m → List Deposit → Value × List Deposit
+  evaluate_if {m} es ds = if_of texts patterns number written leaf read coord es ds
+
+  abbrev pub evaluate_at : {m : _} → Row_of-FlatExpr m → ℕ → List Deposit → Value × List Deposit
+  evaluate_at {m} es k ds = branch_of texts patterns number written leaf read coord es k ds
 
 -- what an attribute keeps of a value: a VOID one keeps a Bad alone
 abbrev pub kept_value : Option FlatAttr → Value → Value

@@ -1,2 +1,8 @@
 //! The faults of the tables of a specification, and the first of them.
 #![tactic(auto)]
+
+mod duplicates;
+mod outputs;
+
+pub use duplicates::least_duplicate;
+pub use outputs::least_bad_out;

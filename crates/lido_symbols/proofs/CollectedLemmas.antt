@@ -10,6 +10,8 @@ use Rattle.lido_syntax.specs.Production.{name_of, symbol_of, places_from}
 use Rattle.lido_symbols.specs.Occurrences.{numbers, names_symbol}
 use Rattle.std.proofs.lemmas.Grind.{flat_map-append}
 use Rattle.std.proofs.lemmas.List.Elements.{filter_map-append}
+use Rattle.std.proofs.lemmas.List.Folds.{flat_map-map}
+use Rattle.std.specs.Borrow.{Bor}
 
 module _ {X Y : Type 0} (f : X → List Y) where
   pub collected_one : (x : X) → flat_map f (x ∷ []) ≡ f x
@@ -66,3 +68,40 @@ pub named_any : (x : ℕ) (es : List Element) → list_any (names_symbol x) es �
 named_any x [] = refl
 named_any x (Symbol n ∷ es) = ap (λ b. nat_eq x (name_of n) || b) (named_any x es)
 named_any x (Literal s ∷ es) = named_any x es
+
+pub filtered_flat : {X Y : Type 0} (h : X → Option Y) (xs : List X) → flat_map (λ x. option_to_list (h x)) xs ≡ filter_map h xs
+filtered_flat h [] = refl
+filtered_flat {X} {Y} h (x ∷ xs) = by (h x) ∙ ap (cons_option (h x)) (filtered_flat h xs)
+  where
+    by : (o : Option Y) → option_to_list o ++ flat_map (λ x. option_to_list (h x)) xs ≡ cons_option o (flat_map (λ x. option_to_list (h x)) xs)
+    by None = refl
+    by (Some y) = refl
+
+-- a walk over a part that stands behind others
+pub collected_behind : {X Y : Type 0} (f : X → List Y) (xs : List X) (i : ℕ) (old front middle found : List Y) → length xs ≤ i → middle ≡ old ++ front → found ≡ middle ++ flat_map f (take i xs)
+    → found ≡ old ++ (front ++ flat_map f xs)
+collected_behind f xs i old front middle found h begun before = collected_all f xs i middle found h before ∙ ap (λ l. l ++ flat_map f xs) begun ∙ append_assoc old front (flat_map f xs)
+
+-- the same for references
+pub collected_seen : {X Y : Type 0} (f : X → List Y) (refs : List (Bor X)) (xs : List X) (i : ℕ) (old front middle found : List Y) → length refs ≤ i → map (λ (r : Bor X). r.now) refs ≡ xs
+    → middle ≡ old ++ front → found ≡ middle ++ flat_map (λ (r : Bor X). f r.now) (take i refs) → found ≡ old ++ (front ++ flat_map f xs)
+collected_seen {X} f refs xs i old front middle found h seen begun before =
+    collected_behind (λ (r : Bor X). f r.now) refs i old front middle found h begun before
+    ∙ ap (λ l. old ++ (front ++ l)) (sym (flat_map-map f (λ (r : Bor X). r.now) refs) ∙ ap (flat_map f) seen)
+
+map_flat : {X Y Z : Type 0} (f : Y → Z) (g : X → List Y) (xs : List X) → map f (flat_map g xs) ≡ flat_map (λ x. map f (g x)) xs
+map_flat f g [] = refl
+map_flat f g (x ∷ xs) = map-append f (g x) (flat_map g xs) ∙ ap (λ l. map f (g x) ++ l) (map_flat f g xs)
+
+flat_flat : {X Y Z : Type 0} (f : Y → List Z) (g : X → List Y) (xs : List X) → flat_map f (flat_map g xs) ≡ flat_map (λ x. flat_map f (g x)) xs
+flat_flat f g [] = refl
+flat_flat f g (x ∷ xs) = flat_map-append f (g x) (flat_map g xs) ∙ ap (λ l. flat_map f (g x) ++ l) (flat_flat f g xs)
+
+-- what is mapped behind a list
+pub map_behind : {X Y Z : Type 0} (f : Y → Z) (g : X → List Y) (ys : List Y) (xs : List X) → map f ys ++ flat_map (λ x. map f (g x)) xs ≡ map f (ys ++ flat_map g xs)
+map_behind f g ys xs = sym (map-append f ys (flat_map g xs) ∙ ap (λ l. map f ys ++ l) (map_flat f g xs))
+
+-- what is collected of two lists of lists
+pub flat_both : {X V Y Z : Type 0} (f : Y → List Z) (g : X → List Y) (h : V → List Y) (xs : List X) (vs : List V)
+    → flat_map (λ x. flat_map f (g x)) xs ++ flat_map (λ v. flat_map f (h v)) vs ≡ flat_map f (flat_map g xs ++ flat_map h vs)
+flat_both f g h xs vs = sym (flat_map-append f (flat_map g xs) (flat_map h vs) ∙ (λ i. flat_flat f g xs i ++ flat_flat f h vs i))

@@ -1,14 +1,18 @@
 //! What a specification names: its symbols, attributes and remote lists, and what they are.
 #![tactic(auto)]
 
+mod attribute_uses;
+mod coordinates;
 mod names;
 mod numbers;
 mod parts;
 mod production;
-mod uses;
+mod symbol_uses;
 
+pub use attribute_uses::attribute_names;
+pub use coordinates::{is_coordinate_in_rule, is_coordinate_in_symbol, is_in_production};
 pub use names::Names;
 pub use numbers::numbered;
 pub use parts::leaves;
 pub use production::{Production, right_symbols};
-pub use uses::{is_coordinate_in_rule, is_coordinate_in_symbol, is_in_production};
+pub use symbol_uses::symbol_names;

@@ -4,7 +4,7 @@ use Rattle.lido_base.specs.Tree.{contains}
 use Rattle.lido_syntax.specs.Production.{left_of, right_of}
 use Rattle.lido_symbols.specs.Occurrences.{names_symbol}
 use Rattle.lido_symbols.proofs.CollectedLemmas.{named_any}
-use Rattle.lido_symbols.proofs.uses.is_in_production.Goals as goal
+use Rattle.lido_symbols.proofs.coordinates.is_in_production.Goals as goal
 
 pub returns-else-eq : goal.returns-else-eq
 returns-else-eq c =

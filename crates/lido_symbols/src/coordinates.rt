@@ -1,24 +1,16 @@
-//! The names that stand in a specification as symbols and as attributes.
-ghost use Rattle.std.specs.Prelude.{◌≡◌, ◌++◌, ◌∷◌, [], ℕ, Some, is_some, map, flat_map, IfOk, OnOk, option_to_list};
+//! Which bare names are coordinates, and which names are symbols of a production.
+ghost use Rattle.std.specs.Prelude.{◌≡◌, is_some};
 ghost use Rattle.std.specs.List.{list_any};
 ghost use Rattle.lido_base.specs.Environment.{Environment};
 ghost use Rattle.lido_base.specs.Tree.{contains};
 ghost use Rattle.lido_syntax.specs.Functions.{text_of};
-ghost use Rattle.lido_syntax.specs.Production.{symbols_of, name_of, right_of};
+ghost use Rattle.lido_syntax.specs.Production.{symbols_of};
 ghost use Rattle.lido_syntax.specs.Coordinates.{part_named};
-ghost use Rattle.lido_syntax.specs.declared.spec.Name.{Name as Named};
-ghost use Rattle.lido_syntax.specs.declared.spec.Comp.{Comp as Computation};
-ghost use Rattle.lido_syntax.specs.declared.spec.Pair.{Pair as OnePair};
-ghost use Rattle.lido_syntax.specs.declared.spec.Typed1.{Typed1 as Typed};
-ghost use Rattle.lido_syntax.specs.declared.spec.Decl.{Decl as Declared};
-ghost use Rattle.lido_syntax.specs.declared.spec.SymbolItem.{SymbolItem as Item};
-ghost use Rattle.lido_symbols.specs.Uses.{is_coordinate_of_rule, is_coordinate_of_symbol, symbols_in, symbols_of_target, symbols_of_computation, production_names, element_name, symbols_of_rule, symbols_of_item, attributes_in, attributes_of_target, declared_names, computations, with_place};
+ghost use Rattle.lido_symbols.specs.Uses.{is_coordinate_of_rule, is_coordinate_of_symbol};
 ghost use Rattle.lido_symbols.specs.Occurrences.{names_symbol};
 
-use crate::leaves;
-use lido_base::{Memory, StrId, Strings};
-use lido_syntax::{Comp, Element, Expr, Name, Pair, Place, RuleItem, Spec, SymbolItem, Target};
-use std::alloc::Global;
+use lido_base::{StrId, Strings};
+use lido_syntax::{Element, Name, RuleItem};
 
 /// Whether the text of the name is that of a coordinate, LINE or COL.
 fn is_part(strings: &Strings, id: StrId) -> bool

@@ -1,0 +1,6 @@
+use Rattle.std.proofs.Common.{◌≡◌, ◌++◌, map, take}
+use Rattle.lido_syntax.specs.declared.spec.Pair.{Pair as OnePair}
+use Rattle.lido_symbols.proofs.symbol_uses.push_pairs.Given as goal
+
+abbrev pub invariant-loop-pair : goal.invariant-loop-pair
+invariant-loop-pair l = l.names.items ≡ l.initial.names.items ++ map (λ (p : OnePair). p.sym) (take l.pair-index l.pairs)

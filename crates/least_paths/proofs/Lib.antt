@@ -1,0 +1,4 @@
+pub mod GraphLemmas
+pub mod MarkLemmas
+pub mod LevelLemmas
+pub mod PathLemmas

@@ -1,2 +1,4 @@
 pub mod Lists
 pub mod IndexLemmas
+pub mod RowLemmas
+pub mod OwnLemmas

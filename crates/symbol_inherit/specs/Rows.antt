@@ -1,11 +1,17 @@
 -- Symbols by their rows.
 use Rattle.std.specs.Prelude.{ℕ, Bool, false, nat_eq, List, Option, position}
 use Rattle.rule_tables.specs.declared.tables.SymbolRow.{SymbolRow}
+use Rattle.rule_tables.specs.declared.tables.SymbolClass.{SymbolClass}
 use Rattle.rule_tables.specs.declared.tables.SymbolClass.TheVariants as class
+
+-- the row of a symbol that is this and has this name is that of s
+abbrev pub is_of : SymbolClass → ℕ → ℕ → Bool
+is_of class.Cell name s = false
+is_of _ name s = nat_eq name s
 
 -- the row is that of the symbol
 abbrev pub is_named : ℕ → SymbolRow → Bool
-is_named s row = elim row.class [ class.Cell ↦ false | _ ↦ nat_eq row.name.0 s ]
+is_named s row = is_of row.class row.name.0 s
 
 -- the number of the symbol
 abbrev pub row_number : List SymbolRow → ℕ → Option ℕ

@@ -3,6 +3,7 @@
 #![tactic(auto)]
 
 mod aims;
+mod classes;
 mod index;
 mod notes;
 mod numbers;

@@ -1,5 +1,5 @@
 -- Inheritance as rows of bits, and the classes that are left for a goal.
-use Rattle.std.specs.Prelude.{◌≡◌, ℕ, ◌<◌, ◌↔◌, Bool, false, ◌&&◌, IsTrue, List, Some, None, slice_get, is_some, unwrap_or}
+use Rattle.std.specs.Prelude.{◌≡◌, ℕ, ◌<◌, ◌≤◌, ◌↔◌, Bool, false, ◌&&◌, nat_eq, nat_le, if◌then◌else◌, IsTrue, List, Option, Some, None, slice_get, is_some, unwrap_or, MatchOption}
 use Rattle.lido_syntax.specs.Sets.{Inherits}
 use Rattle.rule_tables.specs.declared.tables.Tables.{Tables}
 use Rattle.rule_tables.specs.TablesOf.{named_symbols}
@@ -7,6 +7,8 @@ use Rattle.symbol_inherit.specs.Index.{noted}
 use Rattle.symbol_inherit.specs.declared.aims.Aim.{Aim}
 use Rattle.symbol_inherit.specs.declared.classes.Classes.{Classes}
 use Rattle.symbol_inherit.specs.declared.index.Index.{Index}
+use Rattle.symbol_inherit.specs.declared.notes.Own.{Own}
+use Rattle.symbol_inherit.specs.declared.left.Left.{Left}
 
 abbrev pub is_set : List Bool → ℕ → Bool
 is_set row x = unwrap_or (slice_get row x) false
@@ -20,6 +22,16 @@ abbrev pub AreHeirs : Tables → Classes → Type 0
 AreHeirs t classes = (x y s class : ℕ) → slice_get (named_symbols t) x ≡ Some s → slice_get (named_symbols t) y ≡ Some class
     → IsTrue (inherits_by classes x y) ↔ Inherits t.spec s class
 
+-- the one that stands first
+abbrev pub earlier_of : Option Left → Left → Left
+earlier_of None next = next
+earlier_of (Some left) next = if nat_le left.own.at next.own.at then left else next
+
+-- the number is the one that is excepted
+abbrev pub is_that : Option ℕ → ℕ → Bool
+is_that None y = false
+is_that (Some e) y = nat_eq e y
+
 module _ (classes : Classes) (index : Index) (x : ℕ) (aim : Aim) where
   -- a class that x inherits and that computes the aim
   abbrev pub is_candidate : ℕ → Bool
@@ -28,3 +40,22 @@ module _ (classes : Classes) (index : Index) (x : ℕ) (aim : Aim) where
   -- another such class below n inherits it
   abbrev pub IsDropped : ℕ → ℕ → Type 0
   IsDropped n y = (o : ℕ) × (o < n) × IsTrue (is_candidate o && inherits_by classes o y)
+
+  -- the class is a candidate that no other one below n inherits
+  abbrev pub IsLeftBy : ℕ → ℕ → Type 0
+  IsLeftBy n y = IsTrue (is_candidate y) × ¬ IsDropped n y
+
+  -- Of the classes below m that are left, but for one that is excepted, this one's computation stands first; there is none where
+  -- there is no such class.
+  pub record IsEarliest (n m : ℕ) (except : Option ℕ) (best : Left) : Type 0 where
+    pub within : best.class < m
+    pub left : IsLeftBy n best.class
+    pub other : is_that except best.class ≡ false
+    pub own : noted index best.class aim ≡ Some best.own
+    pub first : (y : ℕ) (own : Own) → y < m → IsLeftBy n y → is_that except y ≡ false → noted index y aim ≡ Some own → best.own.at ≤ own.at
+
+  abbrev pub IsNone : ℕ → ℕ → Option ℕ → Type 0
+  IsNone n m except = (y : ℕ) → y < m → IsLeftBy n y → is_that except y ≡ false → ⊥
+
+  abbrev pub IsBest : ℕ → ℕ → Option ℕ → Option Left → Type 0
+  IsBest n m except best = MatchOption best (IsNone n m except) (IsEarliest n m except)

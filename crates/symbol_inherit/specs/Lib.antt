@@ -4,3 +4,5 @@ pub mod Notes
 pub mod Index
 pub mod Symbols
 pub mod Classes
+pub mod Standings
+pub mod BySymbol

@@ -5,5 +5,7 @@
 mod aims;
 mod classes;
 mod index;
+mod left;
 mod notes;
 mod numbers;
+mod standing;

@@ -2,7 +2,9 @@
 #![tactic(auto)]
 
 mod duplicates;
+mod indices;
 mod outputs;
 
 pub use duplicates::least_duplicate;
+pub use indices::least_bad_index;
 pub use outputs::least_bad_out;

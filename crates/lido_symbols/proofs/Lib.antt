@@ -1,2 +1,4 @@
 pub mod CollectedLemmas
 pub mod NumbersLemmas
+pub mod FromTextLemmas
+pub mod PlacesLemmas

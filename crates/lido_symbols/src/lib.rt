@@ -12,7 +12,7 @@ mod symbol_uses;
 pub use attribute_uses::attribute_names;
 pub use coordinates::{is_coordinate_in_rule, is_coordinate_in_symbol, is_in_production};
 pub use names::Names;
-pub use numbers::numbered;
+pub use numbers::{attribute_numbers, numbered, symbol_numbers};
 pub use parts::leaves;
 pub use production::{Production, right_symbols};
 pub use symbol_uses::symbol_names;

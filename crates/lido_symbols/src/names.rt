@@ -1,7 +1,8 @@
 //! Different names in the order of first sight.
-ghost use Rattle.std.specs.Prelude.{◌≡◌, [], nat_eq, position, OnOk, OnErr, length};
+ghost use Rattle.std.specs.Prelude.{◌≡◌, [], nat_eq, position, OnOk, OnErr, length, ◌≤◌};
 ghost use Rattle.lido_base.specs.Tree.{contains};
 ghost use Rattle.indexmap.specs.IndexSet.{insert_key};
+ghost use Rattle.lido_symbols.specs.Numbers.{place_in};
 
 use indexmap::IndexSet;
 use lido_base::{Memory, StrId};
@@ -63,5 +64,16 @@ impl Names {
         ensures { result ≡ length self.now }
     {
         self.set.len()
+    }
+
+    /// The number of the name: its place, or how many names there are where it isn't among them.
+    pub fn number(&self, name: StrId) -> usize
+        ensures number { result ≡ place_in (nat_eq name.0) self.now }
+        ensures within { result ≤ length self.now }
+    {
+        match self.place(name) {
+            Some(place) => place,
+            None => self.len(),
+        }
     }
 }

@@ -21,3 +21,6 @@ pub mod CursorPaths
 pub mod CursorMoves
 pub mod CursorReads
 pub mod CursorSteps
+pub mod Counts
+pub mod Cells
+pub mod LimitLemmas

@@ -177,7 +177,7 @@ module _ (j : Task) where
       go None f h = absurd (none-some _ h)
       go (Some i) f h = (i, f, h)
 
-  of-rule : (n : ℕ) (r : FlatRule) → HasRule j.rules j.flat n r → rule_of j n ≡ Some r
+  pub of-rule : (n : ℕ) (r : FlatRule) → HasRule j.rules j.flat n r → rule_of j n ≡ Some r
   of-rule n r (i, e, f) = ap (λ x. option_and_then (slice_get j.rules) x) e ∙ f
 
   at-is : (n : ℕ) (o : Occ) (k : Computation) → computation_at j n o ≡ Some k → (k.0 ≡ n) × HasRule j.rules j.flat n k.1 × Contains k.1.comps k.2 × (k.2.goal ≡ o)

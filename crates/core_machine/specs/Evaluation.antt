@@ -1,6 +1,6 @@
 -- What a flat computation gives in a region, with ids and descriptors: a value, and the room's deposits afterwards. Arguments are
 -- evaluated from the left, each before its operation; of an IF the branch that is chosen alone.
-use Rattle.std.specs.Prelude.{◌≡◌, ℕ, zero, suc, pos, true, false, List, [], ◌∷◌, Option, Some, None}
+use Rattle.std.specs.Prelude.{◌≡◌, ℕ, List, Option, Some, None}
 use Rattle.lido_base.specs.declared.value.Value.{Value}
 use Rattle.lido_base.specs.declared.value.Value.TheVariants as value
 use Rattle.lido_base.specs.declared.value.ValueType.TheVariants as type

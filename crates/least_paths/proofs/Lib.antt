@@ -2,3 +2,4 @@ pub mod GraphLemmas
 pub mod MarkLemmas
 pub mod LevelLemmas
 pub mod PathLemmas
+pub mod CycleLemmas

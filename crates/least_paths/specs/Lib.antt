@@ -1,3 +1,4 @@
 pub mod Graph
 pub mod Distances
 pub mod Path
+pub mod Cycle

@@ -1,5 +1,6 @@
 //! How many edges lead from each vertex to the nearest source.
-ghost use Rattle.std.specs.Prelude.{◌≡◌, ◌<◌, ◌≤◌, ◌+◌, ◌↔◌, ◌⊎◌, ◌++◌, ◌∷◌, [], ℕ, List as Sequence, IsTrue, Contains, flat_map, length, replicate, IfOk};
+ghost use Rattle.std.specs.Prelude.{◌≡◌, ◌<◌, ◌≤◌, ◌+◌, ◌↔◌, ◌⊎◌, ◌++◌, ◌∷◌};
+ghost use Rattle.std.specs.Prelude.{[], ℕ, List as Sequence, IsTrue, Contains, flat_map, length, replicate, IfOk};
 ghost use Rattle.lido_base.specs.Reach.{Reaches};
 ghost use Rattle.least_paths.specs.Graph.{IsGraph, IsEdge, has_edge, is_in, row_of};
 ghost use Rattle.least_paths.specs.Distances.{IsMarked, AreDistances};

@@ -1,12 +1,14 @@
-//! Graphs of numbers: from which vertices a source can be reached, and the first of the shortest paths.
+//! Graphs of numbers: from which vertices a source can be reached, and the first of the shortest paths and cycles.
 //!
 //! The vertices of a graph are counted from 0, and for each the vertices are listed to which an edge leads from it. A set of
 //! vertices tells for each vertex whether it is in the set.
 #![tactic(auto)]
 
+mod cycle;
 mod distances;
 mod path;
 mod turned;
 
+pub use cycle::least_cycle;
 pub use distances::reaching;
 pub use path::least_path;

@@ -1,5 +1,6 @@
 //! The first of the shortest paths.
-ghost use Rattle.std.specs.Prelude.{◌≡◌, ◌<◌, ◌+◌, ◌↔◌, ◌++◌, ◌∷◌, [], ℕ, Bool, nat_eq, List as Sequence, IsTrue, Contains, length, IfOk, IfSome, IfNone};
+ghost use Rattle.std.specs.Prelude.{◌≡◌, ◌<◌, ◌+◌, ◌↔◌, ◌++◌, ◌∷◌, [], ℕ};
+ghost use Rattle.std.specs.Prelude.{Bool, nat_eq, List as Sequence, IsTrue, Contains, length, IfOk, IfSome, IfNone};
 ghost use Rattle.lido_base.specs.Reach.{IsLeastPath, IsPathFrom};
 ghost use Rattle.least_paths.specs.Graph.{IsGraph, has_edge, is_in};
 ghost use Rattle.least_paths.specs.Distances.{AreDistances, IsAt};

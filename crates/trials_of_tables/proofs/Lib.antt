@@ -7,3 +7,4 @@ pub mod ForceLemmas
 pub mod TableLemmas
 pub mod InForceLemmas
 pub mod SlotsOfItems
+pub mod FromTextOfItems

@@ -6,6 +6,7 @@ ghost use Rattle.table_faults.specs.Faults.{table_faults};
 ghost use Rattle.rule_tables.specs.Forced.{AreForced};
 ghost use Rattle.rule_tables.specs.InForceFaults.{in_force_faults};
 ghost use Rattle.rule_tables.specs.Needs.{rules, AreTables, Needs, NeedsIncluding, NeedsChain, IsWanted, CanReach};
+ghost use Rattle.lido_symbols.specs.FromText.{IsFromText};
 ghost use Rattle.lido_symbols.specs.Numbers.{AreNumbered};
 ghost use Rattle.rule_tables.specs.PlainRules.{plain_rules};
 ghost use Rattle.rule_tables.specs.Shares.{IncludingShare, ConstituentsShare, ChainShare, Read, Copied, Comb, below_term, out_term};
@@ -83,6 +84,11 @@ pub fn slots_of_items()
     ensures attributes { (sets : Sets spec) (needs : Needs spec (tables sets)) → AreSlots spec (tables sets) needs slots }
     ensures message_first { (sets : Sets spec) (needs : Needs spec (tables sets))
         → IsBefore spec (tables sets) needs (Msg 1) Out }
+{}
+
+/// It is as one that was read from a text: places tell names, and places and numbers tell computations.
+pub fn items_from_text()
+    ensures { IsFromText spec }
 {}
 
 /// No fault of the tables stands in it.

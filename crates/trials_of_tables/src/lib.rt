@@ -8,8 +8,8 @@ mod counted_items;
 mod faulty;
 
 pub use counted_items::{
-    forced_of_items, needs_of_items, shares_of_items, slots_of_items, tables_of_items,
-    whole_tables_of_items, without_faults, without_in_force_faults,
+    forced_of_items, items_from_text, needs_of_items, shares_of_items, slots_of_items,
+    tables_of_items, whole_tables_of_items, without_faults, without_in_force_faults,
 };
 pub use faulty::{
     bad_index, bad_out, class_cycle, double_computation, duplicate_rule, kind_clash,

@@ -1,15 +1,14 @@
 -- What a call decides.
-use Rattle.std.proofs.Common.{◌≡◌, ◌⊎◌, ℕ, List, [], Option, Some, Result, Ok, Err, refl, ap, sym, subst, inl, inr, ◌∙◌}
+use Rattle.std.proofs.Common.{◌≡◌, ◌⊎◌, ℕ, List, [], Some, Result, Ok, Err, refl, ap, sym, subst, inl, inr, ◌∙◌}
 use Rattle.lido_base.specs.Phases.{IsThe}
 use Rattle.job_text.specs.declared.command_line.Command.{Command}
-use Rattle.lido_top.specs.Answers.{Answer, Seen, answer_of, refusal}
+use Rattle.lido_top.specs.Answers.{Seen, answer_of, refusal}
 use Rattle.lido_top.specs.Calls.{words_fail, answers, memory_ends}
-use Rattle.lido_top.specs.Calls as calls
 use Rattle.order_report.specs.declared.status.Status.{Status}
 use Rattle.lido_top.specs.declared.call.Refusal.{Refusal}
 use Rattle.lido_top.specs.Endings.{Ending, ending, plainly, no_memory}
 use Rattle.lido_top.specs.Words.{CommandOf}
-use Rattle.lido_top.specs.Verdict.{AnswerTo, Decides, IsAlike, TextOf, reads}
+use Rattle.lido_top.specs.Verdict.{Decides, TextOf}
 use Rattle.std.specs.Io.KnownBytes.{Keeps}
 use Rattle.lido_base.specs.Inputs.{TakesAll}
 

@@ -1,9 +1,9 @@
 -- What the definitions of a call settle.
-use Rattle.std.proofs.Common.{◌≡◌, ◌≢◌, ◌⊎◌, ◌<◌, ◌≤◌, ◌++◌, ℕ, List, [], ◌∷◌, length, codes, Option, Some, None, IfSome, Result, Ok, Err, refl, ap, sym, ◌∙◌, arith, subst, inl, inr, length-append, append-nil, true, false}
+use Rattle.std.proofs.Common.{◌≡◌, ◌≢◌, ◌⊎◌, ◌<◌, ◌≤◌, ℕ, List, [], ◌∷◌, length, codes, Option, Some, None, IfSome, Result, Ok, Err, refl, ap, sym, ◌∙◌, arith, subst, inl, inr, length-append, append-nil}
 use Rattle.std.specs.Io.KnownBytes.{Appends, Consumes, Keeps}
 use Rattle.lido_base.specs.Causes.{Rose}
 use Rattle.lido_base.specs.Inputs.{most, TakesAll, TakesTooMany}
-use Rattle.lido_base.specs.Phases.{IsThe, OneOf, Then, Wrapped}
+use Rattle.lido_base.specs.Phases.{OneOf, Then, Wrapped}
 use Rattle.job_text.specs.declared.command_line.Command.{Command}
 use Rattle.job_text.specs.declared.command_line.WordsFault.{WordsFault}
 use Rattle.job_text.specs.declared.command_line.WordsFault.TheVariants as word

@@ -1,5 +1,5 @@
 -- Which answer a call of lido follows: the words say a command, a command answers an input, or answers by itself.
-use Rattle.std.specs.Prelude.{◌≡◌, ◌<◌, ◌≤◌, ℕ, List, length, Bool, true, false, IsTrue, Option, Some, None, Result, Ok, Err}
+use Rattle.std.specs.Prelude.{◌≡◌, ◌<◌, ◌≤◌, ℕ, List, length, Bool, true, false, Option, Some, None, Result, Ok, Err}
 use Rattle.std.specs.Io.KnownBytes.{Keeps}
 use Rattle.lido_base.specs.Causes.{Rose}
 use Rattle.lido_base.specs.Inputs.{most, TakesAll, TakesAtMost, TakesTooMany}

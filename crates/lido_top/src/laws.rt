@@ -24,6 +24,12 @@ pub fn three_and_four()
     ensures { IsAnswer (codes "run" ∷ []) (SUM_JOB.now ++ codes "(rTop (rAdd (rNum 3) (rNum 4)))\n") (written (codes "7")) }
 {}
 
+/// Words and bytes call for one answer: each two of them are alike.
+pub fn one_answer()
+    ensures { (words : List (List ℕ)) (bytes : List ℕ) (first second : Answer)
+        → IsAnswer words bytes first → IsAnswer words bytes second → IsAlike first second }
+{}
+
 /// Where a source tells its bytes, what a call decides is alike to each answer that they and the words call for, or the source failed,
 /// or memory ran out.
 pub fn told_bytes_settle_the_answer()

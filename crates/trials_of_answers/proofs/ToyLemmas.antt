@@ -15,6 +15,10 @@ says words r is = record { is = is; only = λ s given. given ∙ sym is }
 pub takes_one : TakesAll (Some (codes "x")) (Some []) (codes "x")
 takes_one = record { told = refl; taken = refl; ended = refl; fits = omega arith }
 
+-- another input of one byte is taken
+pub takes_y : TakesAll (Some (codes "y")) (Some []) (codes "y")
+takes_y = record { told = refl; taken = refl; ended = refl; fits = omega arith }
+
 -- the empty input is taken
 pub takes_none : TakesAll (Some []) (Some []) []
 takes_none = record { told = refl; taken = refl; ended = refl; fits = omega arith }

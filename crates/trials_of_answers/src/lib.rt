@@ -14,6 +14,7 @@ ghost use Rattle.order_report.specs.declared.status.Which.{Which};
 ghost use Rattle.order_report.specs.Lines.{line_of};
 ghost use Rattle.lido_top.specs.Answers.{Answer, Seen, Follows, refusal, seen, written};
 ghost use Rattle.lido_top.specs.Endings.{ending, no_memory, plainly};
+ghost use Rattle.trials_of_answers.specs.Rows.{DecidesMore, HasRow};
 ghost use Rattle.trials_of_answers.specs.Toy.{Decides, IsAlike, cycle, names, with_notes, written_and_refused};
 
 /// A specification with two cycles has two right answers, which are alike.
@@ -68,6 +69,19 @@ pub fn causes_stand_in_the_row()
     ensures met { Decides (codes "run" ∷ []) (seen (Some []) 4) (seen (Some []) 5) (refusal (plainly Status.ReadFault)) }
     ensures cut { (out : Seen) → Follows (refusal (plainly Status.ReadFault)) out out (seen (Some []) 0)
         (seen (Some (codes "lido")) 1) (Status.WriteFault Which.Err 4) }
+{}
+
+/// Each status has its row, which says what was read and written, by the kind of the status. Where the toy gives one status more,
+/// the same lemma says its row, and only the kinds of the toy's statuses have one case more.
+pub fn a_status_has_its_row()
+    ensures row { (words : List (List ℕ)) (src later out out_later err err_later : Seen) (decided : Answer) (s : Status)
+        → Decides words src later decided → Follows decided out out_later err err_later s
+        → HasRow decided src later out out_later err err_later s }
+    ensures one_more { (words : List (List ℕ)) (src later out out_later err err_later : Seen) (decided : Answer) (s : Status)
+        → DecidesMore words src later decided → Follows decided out out_later err err_later s
+        → HasRow decided src later out out_later err err_later s }
+    ensures decided { DecidesMore (codes "run" ∷ []) (seen (Some (codes "y")) 0) (seen (Some []) 0)
+        (refusal (plainly Status.NoTree)) }
 {}
 
 #[cfg(test)]

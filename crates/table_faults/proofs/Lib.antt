@@ -1,3 +1,4 @@
 pub mod OutputsLemmas
 pub mod DuplicatesLemmas
 pub mod IndicesLemmas
+pub mod UnknownLemmas

@@ -4,7 +4,9 @@
 mod duplicates;
 mod indices;
 mod outputs;
+mod unknown;
 
 pub use duplicates::least_duplicate;
 pub use indices::least_bad_index;
 pub use outputs::least_bad_out;
+pub use unknown::least_unknown;

@@ -4,3 +4,4 @@ pub mod RowLemmas
 pub mod OwnLemmas
 pub mod LeftLemmas
 pub mod StandingLemmas
+pub mod SingleLemmas

@@ -116,7 +116,7 @@ module _ (texts : List (List ℕ)) (patterns : List Pattern) (number written : �
     evaluate-within (If' shape args) ds = if-within args ds
     evaluate-within (Order' shape args) ds = all-within args ds
 
-    all-within : {m : _} (es : Row_of-FlatExpr m) (ds : List Deposit) → cells_of (evaluate_all texts patterns number written leaf read coord es ds).1 ≤ cells_of ds + cells_of_all es
+    pub all-within : {m : _} (es : Row_of-FlatExpr m) (ds : List Deposit) → cells_of (evaluate_all texts patterns number written leaf read coord es ds).1 ≤ cells_of ds + cells_of_all es
     all-within end_of-FlatExpr ds = omega arith
     all-within (more_of-FlatExpr e es) ds = let a = evaluate-within e ds in let b = all-within es (one e ds).1 in omega (arith, a, b)
 

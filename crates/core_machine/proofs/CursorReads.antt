@@ -20,7 +20,8 @@ use Rattle.core_machine.specs.Walks.{root_of}
 use Rattle.core_machine.specs.Cursors.{up_to_split, level}
 use Rattle.core_machine.proofs.Jobs.{grown}
 use Rattle.core_machine.proofs.KeyLemmas.{place}
-use Rattle.core_machine.proofs.RegionWalks.{tree, above-split, region-split, contains-true}
+use Rattle.core_machine.proofs.RegionWalks.{tree, region-split, contains-true}
+use Rattle.core_machine.proofs.FinalLemmas.{region-few}
 use Rattle.core_machine.proofs.CursorPaths.{one-level}
 
 pub node-at : (ns : List NodeId) (k : ℕ) (d : NodeId) → k < length ns → slice_get (map (λ (n : NodeId). n.0) ns) k ≡ Some (get_or ns k d).0
@@ -112,17 +113,11 @@ module _ (j : Task) where
         is ∙ ap (λ l. get_or l i d) same
         ∙ sym (ap (λ o. unwrap_or (slice_get j.seqs (unwrap_or o 0)) []) e ∙ ap (λ o. unwrap_or o []) (slice_get-get_or j.seqs i d (seq-there n i h e)))
 
-    pub region-few : (n : ℕ) → region j.flat j.nodes n ≤ length j.nodes
-    region-few n = elim (above-split j task (suc n) n (omega arith)) [
-      | inl z ↦ omega (arith, z)
-      | inr (s, split, sub, e) ↦ (let p = place 1 j.nodes s split in let a = p.number in let b = p.inside in omega (arith, e, a, b))
-    ]
-
     -- the node at which the region of a node begins, where that isn't the root's
     pub split-read : (ns : List NodeId) (n r : ℕ) (d : NodeId) → map (λ (n : NodeId). n.0) ns ≡ j.nodes → r ≡ region j.flat j.nodes n → 0 < r
         → (r - 1 < length ns) × (slice_get j.nodes (r - 1) ≡ Some (get_or ns (r - 1) d).0)
     split-read ns n r d same e pos =
-        let l = ap length same in let f = length-map ns (λ (n : NodeId). n.0) in let g = region-few n in
+        let l = ap length same in let f = length-map ns (λ (n : NodeId). n.0) in let g = region-few j.flat j.nodes n in
         let h : r - 1 < length ns = omega (arith, l, e, f, g, pos) in
         (h, ap (λ l. slice_get l (r - 1)) (sym same) ∙ node-at ns (r - 1) d h)
 

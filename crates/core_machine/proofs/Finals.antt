@@ -57,7 +57,7 @@ module _ (j : Task) (task : IsTask j) where
       go true e = ([], ap d (eqb-true number r e) ∙ sym (append-nil (d r)))
       go false e = ([], sym (append-nil (d r)))
 
-  home-few : (i : Instance) → home j i < many
+  pub home-few : (i : Instance) → home j i < many
   home-few i = go (computation_of j i)
     where
       go : (x : Option Computation) → elim x [ None ↦ 0 | Some c ↦ region j.flat j.nodes c.0 ] < many

@@ -24,3 +24,4 @@ pub mod CursorSteps
 pub mod Counts
 pub mod Cells
 pub mod LimitLemmas
+pub mod RangeLemmas

@@ -1,13 +1,19 @@
 -- The limits on a flat tree bound the whole order, the list of items and the rooms.
 use Rattle.std.specs.Prelude.{Contains, slice_get, unwrap_or, sum_by, flat_map, map, fold, option_and_then, option_map, if◌then◌else◌, ◌==◌}
 use Rattle.std.specs.List.{range_with_len}
-use Rattle.std.proofs.Common.{◌≡◌, ℕ, ◌+◌, ◌*◌, ◌≤◌, ◌<◌, List, [], ◌∷◌, length, Bool, true, false, Option, Some, None, refl, arith, ap, sym, subst, ◌∙◌, eqb-true}
+use Rattle.std.proofs.lemmas.Option.{none-some}
+use Rattle.std.proofs.Common.{◌≡◌, ℕ, zero, suc, ◌+◌, ◌*◌, ◌≤◌, ◌<◌, ◌^◌, List, [], ◌∷◌, length, Bool, true, false, Option, Some, None, refl, arith, ap, sym, subst, ◌∙◌, eqb-true}
 use Rattle.std.proofs.lemmas.List.{length-append}
 use Rattle.std.proofs.lemmas.List.FromFn.{length-map-range_with_len}
 use Rattle.std.proofs.lemmas.List.Sums.{sum_by-cons, fold-append}
 use Rattle.lido_base.specs.declared.value.Value.{Value}
 use Rattle.lido_base.specs.declared.value.Value.TheVariants as value
-use Rattle.lido_base.specs.Tree.{Node, contains, item_at, coordinate}
+use Rattle.lido_base.specs.declared.value.ValueType.{ValueType}
+use Rattle.lido_base.specs.declared.value.ValueType.TheVariants as type
+use Rattle.lido_base.specs.declared.kinds.CoordPart.{CoordPart}
+use Rattle.lido_base.specs.declared.kinds.CoordPart.TheVariants as part
+use Rattle.lido_base.specs.Ranges.{IsInRange}
+use Rattle.lido_base.specs.Tree.{Node, Item as TreeItem, Child, Leaf, contains, item_at, items_of, coordinate}
 use Rattle.lido_base.proofs.Lists.{map-contains, flat-contains}
 use Rattle.string_librarian.specs.Rooms.{Deposit, cells_of}
 use Rattle.flat_grammar.specs.declared.flat.FlatRule.{FlatRule}
@@ -17,12 +23,17 @@ use Rattle.flat_grammar.specs.Fitting.{at_node, cells, most_instances, most_text
 use Rattle.flat_grammar.specs.WholeOrder.{Instance, node_at}
 use Rattle.flat_grammar.specs.Instances.{instance_at}
 use Rattle.core_machine.specs.Machine.{State, eval_of, put_of, after, opening, final}
-use Rattle.core_machine.specs.Core.{Task, IsTask, Computation, rule_of, computation_of, home, outcome, gives, instances_in_order, items_for, items, machine}
-use Rattle.flat_grammar.proofs.Lists.{held}
+use Rattle.core_machine.specs.Core.{Task, IsTask, Computation, same_instance, rule_of, computation_of, home, outcome, gives, instances_in_order, items_for, items, machine}
+use Rattle.flat_grammar.proofs.Lists.{held, contains-slice_get}
 use Rattle.core_machine.proofs.Jobs.{grown, in-order}
 use Rattle.core_machine.proofs.Tasks.{computes, computed, of-rule}
 use Rattle.core_machine.proofs.CursorPaths.{in-range}
-use Rattle.core_machine.specs.Evaluation.{leaf_value}
+use Rattle.flat_grammar.specs.declared.flat.FlatAttr.{FlatAttr}
+use Rattle.flat_grammar.specs.WellFormed.{attribute_of}
+use Rattle.core_machine.specs.Evaluation.{evaluate, leaf_value, kept_value}
+use Rattle.core_machine.specs.Limits.{AreInTheirTypes}
+use Rattle.core_machine.proofs.RangeLemmas.{evaluate-range}
+use Rattle.core_machine.proofs.Finals.{home-few}
 use Rattle.core_machine.proofs.Cells.{evaluate-within}
 use Rattle.core_machine.proofs.Counts.{Once, sum-within, sum-ones, sum-flat, sum-map, sum-places}
 use Rattle.core_machine.proofs.Sites.{inside}
@@ -173,3 +184,88 @@ module _ (j : Task) (task : IsTask j) where
 
   pub room-cells : (r : ℕ) → cells_of ((final (machine j)).rooms r) ≤ most_text_cells
   room-cells r = let a = along-within (instances_in_order j) opening r in let b = few-cells in omega (arith, a, b)
+
+  module _ (numbers : AreInTheirTypes j) where
+    abbrev GoodValues : S → Type 0
+    GoodValues s = (i : Instance) (v : Value) → s.values i ≡ Some v → IsInRange v
+
+    kept-range : (attr : Option FlatAttr) (v : Value) → IsInRange v → IsInRange (kept_value attr v)
+    kept-range None v h = h
+    kept-range (Some attr) v h = go attr.ty v h
+      where
+        go : (ty : ValueType) (v : Value) → IsInRange v → IsInRange (elim ty [ type.Void ↦ elim v [ value.Bad o ↦ value.Bad o | _ ↦ value.Void ] | _ ↦ v ])
+        go type.Int v h = h
+        go type.Str v h = h
+        go type.Bool v h = h
+        go type.Text v h = h
+        go type.Void (value.Int z) h = tt
+        go type.Void (value.Bool z) h = tt
+        go type.Void (value.Str z) h = tt
+        go type.Void (value.Text z) h = tt
+        go type.Void value.Void h = tt
+        go type.Void (value.Bad o) h = h
+
+    leaf-range : (n k : ℕ) → IsInRange (leaf_value (item_at j.flat n k))
+    leaf-range n zero = tt
+    leaf-range n (suc k) = go (slice_get (items_of j.flat n) k) refl
+      where
+        go : (o : Option (TreeItem Value)) → slice_get (items_of j.flat n) k ≡ o → IsInRange (leaf_value o)
+        go None e = tt
+        go (Some (Child c)) e = tt
+        go (Some (Leaf v)) e = numbers.leaves n k v e
+
+    read-range : (o : Option Value) → ((v : Value) → o ≡ Some v → IsInRange v) → IsInRange (unwrap_or o value.Void)
+    read-range None h = tt
+    read-range (Some v) h = h v refl
+
+    node-range : (o : Option ℕ) → ((w : ℕ) → o ≡ Some w → w < 2 ^ 32) → unwrap_or o 0 < 2 ^ 32
+    node-range None h = omega arith
+    node-range (Some w) h = h w refl
+
+    coord-range : (n : ℕ) (part : CoordPart) → coordinate j.flat n part < 2 ^ 32
+    coord-range n part.Line = numbers.lines n
+    coord-range n part.Col = numbers.columns n
+
+    outcome-range : (s : S) (i : Instance) → GoodValues s → cells_of (s.rooms (home j i)) + cost (computation_of j i) ≤ most_text_cells
+        → IsInRange (outcome j (home j i) s.values (s.rooms (home j i)) (computation_of j i)).0
+    outcome-range s i good few = go (computation_of j i) refl few
+      where
+        go : (o : Option Computation) → computation_of j i ≡ o → cells_of (s.rooms (home j i)) + cost o ≤ most_text_cells → IsInRange (outcome j (home j i) s.values (s.rooms (home j i)) o).0
+        go None e few = tt
+        go (Some c) e few =
+            let origin = node_at j.flat c.0 c.2.origin in
+            let is = computed j task (grown j task) (in-order j task) i c e in
+            let h = home-few j task i in
+            let n = task.few_nodes in
+            kept-range (attribute_of j.symbols c.1 c.2.goal) (evaluate j.texts j.patterns (home j i) j.flat (unwrap_or (slice_get j.node_of origin) 0) origin c.0 (λ d. unwrap_or (s.values d) value.Void) c.2.value (s.rooms (home j i))).0
+            (evaluate-range j.texts j.patterns (home j i) (unwrap_or (slice_get j.node_of origin) 0) (omega (arith, h, n)) (node-range (slice_get j.node_of origin) (λ w x. numbers.nodes origin w x))
+            (λ k. leaf_value (item_at j.flat c.0 k)) (λ o. unwrap_or (s.values (instance_at j.flat c.0 o)) value.Void) (coordinate j.flat origin)
+            (λ k. leaf-range c.0 k) (λ o. read-range (s.values (instance_at j.flat c.0 o)) (λ v x. good (instance_at j.flat c.0 o) v x)) (coord-range origin)
+            c.2.value (s.rooms (home j i)) (numbers.expressions c.1 c.2 (contains-slice_get j.rules is.at.0 c.1 is.at.2) is.comp) (omega (arith, few)))
+
+    eval-range : (s : S) (x : Instance) → GoodValues s → cells_of (s.rooms (home j x)) + cost (computation_of j x) ≤ most_text_cells → GoodValues (after (machine j) s (eval_of x))
+    eval-range s x good few i v = go (same_instance x i)
+      where
+        go : (b : Bool) → (if b then Some (gives j x s.values (s.rooms (home j x))).0 else s.values i) ≡ Some v → IsInRange v
+        go true e = subst IsInRange (held e) (outcome-range s x good few)
+        go false e = good i v e
+
+    items-range : (s : S) (x : Instance) → GoodValues s → cells_of (s.rooms (home j x)) + cost (computation_of j x) ≤ most_text_cells → GoodValues (fold (after (machine j)) s (items_for j x))
+    items-range s x good few = go (contains x.0 j.nodes)
+      where
+        go : (b : Bool) → GoodValues (fold (after (machine j)) s (if b then eval_of x ∷ put_of x ∷ [] else eval_of x ∷ []))
+        go true = eval-range s x good few
+        go false = eval-range s x good few
+
+    along-range : (xs : List Instance) (s : S) → GoodValues s → ((r : ℕ) → cells_of (s.rooms r) + sum_by (λ (i : Instance). cost (computation_of j i)) xs ≤ most_text_cells)
+        → GoodValues (fold (after (machine j)) s (flat_map (items_for j) xs))
+    along-range [] s good few = good
+    along-range (x ∷ xs) s good few =
+        let d = sum_by-cons (λ (i : Instance). cost (computation_of j i)) x xs in
+        let here = few (home j x) in
+        let next = items-range s x good (omega (arith, here, d)) in
+        subst GoodValues (sym (fold-append (after (machine j)) s (items_for j x) (flat_map (items_for j) xs)))
+        (along-range xs (fold (after (machine j)) s (items_for j x)) next (λ r. let a = items-within s x r in let b = few r in omega (arith, a, b, d)))
+
+    pub values-range : GoodValues (final (machine j))
+    values-range = along-range (instances_in_order j) opening (λ i v e. absurd (none-some _ e)) (λ r. let b = few-cells in omega (arith, b))

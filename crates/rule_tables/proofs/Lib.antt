@@ -1,2 +1,3 @@
 pub mod SlotLemmas
 pub mod NeedsLemmas
+pub mod PlainLemmas

@@ -4,7 +4,9 @@
 mod extra;
 mod forced;
 mod laws;
+mod rule_shapes;
 mod tables;
+mod written;
 
 pub use extra::{Extra, ExtraAttr, ExtraComp, Piece, Slot, SlotAt, Term};
 pub use forced::{Force, Forced, Goal};

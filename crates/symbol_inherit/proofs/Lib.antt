@@ -5,3 +5,5 @@ pub mod OwnLemmas
 pub mod LeftLemmas
 pub mod StandingLemmas
 pub mod SingleLemmas
+pub mod RuleLemmas
+pub mod ForceLemmas

@@ -57,7 +57,7 @@ module _ (spec : Spec) where
   pub target-aim : (t : Target) (a : Aim) → IsSymbolTarget spec t (goal_of a) → aim_in_symbol t ≡ Some a
   target-aim t a h = by-way t a.way a.name h
 
-some-mapped : {X Y : Type 0} (f : X → Y) (o : Option X) (y : Y) → option_map f o ≡ Some y → (x : X) × (o ≡ Some x) × (f x ≡ y)
+pub some-mapped : {X Y : Type 0} (f : X → Y) (o : Option X) (y : Y) → option_map f o ≡ Some y → (x : X) × (o ≡ Some x) × (f x ≡ y)
 some-mapped f None y e = absurd (none-some y e)
 some-mapped f (Some x) y e = (x, refl, same_Some _ _ e)
 

@@ -1,14 +1,13 @@
 -- A specification from a text without faults of the tables has one computation of each goal.
-use Rattle.std.specs.Prelude.{IsTrue, Contains, slice_get, flat_map}
-use Rattle.std.proofs.Common.{◌≡◌, ℕ, zero, suc, ◌<◌, ◌≤◌, ◌⊎◌, inl, inr, List, [], ◌∷◌, ◌++◌, Some, refl, sym, ap, ◌∙◌, subst, arith}
+use Rattle.std.specs.Prelude.{Contains, slice_get, flat_map}
+use Rattle.std.proofs.Common.{◌≡◌, ℕ, zero, suc, ◌<◌, ◌≤◌, ◌⊎◌, inl, inr, Some, refl, sym, ap, ◌∙◌, arith}
 use Rattle.std.proofs.lemmas.Bool.{cases_lt}
-use Rattle.std.proofs.lemmas.Option.{none-some, same_Some}
+use Rattle.std.proofs.lemmas.Option.{same_Some}
 use Rattle.std.proofs.lemmas.List.Elements.{Contains-append_left, Contains-append_right}
 use Rattle.lido_base.specs.Environment.{Environment}
 use Rattle.lido_base.specs.Faults.{HasNone}
 use Rattle.lido_base.proofs.FaultsLemmas.{at_place-none}
 use Rattle.lido_base.proofs.Lists.{contains-place, flat-contains}
-use Rattle.lido_syntax.specs.declared.fault.SpecFault.{SpecFault}
 use Rattle.lido_syntax.specs.declared.fault.SpecFault.TheVariants as fault
 use Rattle.lido_syntax.specs.declared.spec.Spec.{Spec}
 use Rattle.lido_syntax.specs.declared.spec.Comp.{Comp}

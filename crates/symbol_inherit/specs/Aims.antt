@@ -1,9 +1,12 @@
 -- What computations give values to, as the goals of the specification.
-use Rattle.std.specs.Prelude.{ℕ, Option, Some, None}
+use Rattle.std.specs.Prelude.{ℕ, zero, suc, Bool, if◌then◌else◌, List, Option, Some, None}
+use Rattle.lido_base.specs.Tree.{contains}
 use Rattle.lido_syntax.specs.declared.spec.Name.{Name}
 use Rattle.lido_syntax.specs.declared.spec.Target.{Target}
 use Rattle.lido_syntax.specs.declared.spec.Target.TheVariants as target
 use Rattle.lido_syntax.specs.declared.spec.Place.TheVariants as place
+use Rattle.lido_syntax.specs.declared.spec.RuleItem.{RuleItem}
+use Rattle.lido_syntax.specs.Production.{name_of, occurrence}
 use Rattle.lido_syntax.specs.Computation as written
 use Rattle.symbol_inherit.specs.declared.aims.Way.{Way}
 use Rattle.symbol_inherit.specs.declared.aims.Way.TheVariants as way
@@ -36,3 +39,15 @@ aim_in_symbol (target.Attr place.Inh a) = aimed way.Inherited a
 aim_in_symbol (target.Attr place.This a) = aimed way.Behind a
 aim_in_symbol (target.Start a) = aimed way.Start a
 aim_in_symbol _ = None
+
+-- what a computation of a rule gives a value to whose target is this attribute or chain at an occurrence, and where
+abbrev pub aim_at : Bool → Option ℕ → Name → Option (ℕ × Aim)
+aim_at is_chain None a = None
+aim_at is_chain (Some zero) a = Some (0, record { way = if is_chain then way.Behind else way.Synthesized; name = a.id })
+aim_at is_chain (Some (suc k)) a = Some (suc k, record { way = way.Inherited; name = a.id })
+
+-- what a computation with this target gives a value to in a rule's body, and at which occurrence
+abbrev pub aim_in_rule : List ℕ → RuleItem → Target → Option (ℕ × Aim)
+aim_in_rule chains r (target.Attr (place.Named x i) a) = aim_at (contains (name_of a) chains) (occurrence r x i) a
+aim_in_rule chains r (target.Start a) = Some (0, record { way = way.Start; name = a.id })
+aim_in_rule chains r _ = None

@@ -6,3 +6,5 @@ pub mod Symbols
 pub mod Classes
 pub mod Standings
 pub mod BySymbol
+pub mod Rules
+pub mod Forces

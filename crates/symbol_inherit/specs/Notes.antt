@@ -2,11 +2,12 @@
 use Rattle.std.specs.Prelude.{ℕ, List, [], flat_map, filter_map, Option, Some, None, option_map}
 use Rattle.lido_syntax.specs.declared.spec.Comp.{Comp}
 use Rattle.lido_syntax.specs.declared.spec.Name.{Name}
+use Rattle.lido_syntax.specs.declared.spec.RuleItem.{RuleItem}
 use Rattle.lido_syntax.specs.declared.spec.SymbolItem.{SymbolItem}
 use Rattle.lido_syntax.specs.Production.{name_of}
 use Rattle.rule_tables.specs.declared.tables.SymbolRow.{SymbolRow}
 use Rattle.symbol_inherit.specs.Rows.{row_number}
-use Rattle.symbol_inherit.specs.Aims.{aim_in_symbol}
+use Rattle.symbol_inherit.specs.Aims.{aim_in_symbol, aim_in_rule}
 use Rattle.symbol_inherit.specs.declared.aims.Aim.{Aim}
 use Rattle.symbol_inherit.specs.declared.notes.Own.{Own}
 use Rattle.symbol_inherit.specs.declared.notes.Note.{Note}
@@ -34,3 +35,14 @@ item_notes rows item = flat_map (λ (name : Name). numbered_notes item.body (row
 -- those of all items
 abbrev pub all_notes : List SymbolRow → List SymbolItem → List Note
 all_notes rows = flat_map (item_notes rows)
+
+-- a computation of a rule, if it gives a value to an attribute or a chain
+abbrev pub placed : Comp → ℕ × Aim → Note
+placed c p = record { place = p.0; aim = p.1; own = own_of c }
+
+abbrev pub rule_note : List ℕ → RuleItem → Comp → Option Note
+rule_note chains r c = option_map (placed c) (aim_in_rule chains r c.target)
+
+-- those of a rule
+abbrev pub rule_notes : List ℕ → RuleItem → List Note
+rule_notes chains r = filter_map (rule_note chains r) r.body

@@ -1,9 +1,12 @@
 //! What computations give values to.
 ghost use Rattle.std.specs.Prelude.{◌≡◌};
-ghost use Rattle.symbol_inherit.specs.Aims.{aim_in_symbol, number_of};
+ghost use Rattle.symbol_inherit.specs.Aims.{aim_in_symbol, aim_at, aim_in_rule, number_of};
+ghost use Rattle.lido_symbols.specs.Occurrences.{IsProductionOf};
+ghost use Rattle.lido_syntax.specs.declared.spec.RuleItem.{RuleItem as Rule};
 
 use lido_base::StrId;
-use lido_syntax::{Place, Target};
+use lido_symbols::{Names, Production};
+use lido_syntax::{Name, Place, Target};
 
 /// How a computation gives a value to an attribute or a chain.
 #[derive(Clone, Copy)]
@@ -52,4 +55,41 @@ pub fn symbol_aim(target: &Target) -> Option<Aim>
         _ => return None,
     };
     Some(Aim { way, name: name.id })
+}
+
+/// What a computation of a rule whose target is this attribute or chain at an occurrence gives a value to, and where.
+fn aim_at_occurrence(is_chain: bool, occurrence: Option<usize>, name: Name) -> Option<(usize, Aim)>
+    ensures { result ≡ aim_at is_chain occurrence name }
+{
+    let occ = occurrence?;
+    let way = if occ > 0 {
+        Way::Inherited
+    } else if is_chain {
+        Way::Behind
+    } else {
+        Way::Synthesized
+    };
+    Some((occ, Aim { way, name: name.id }))
+}
+
+/// What a computation with this target in a rule's body gives a value to, and at which occurrence. The output and a message
+/// are none of these.
+pub fn rule_aim(chains: &Names, production: &Production, target: &Target) -> Option<(usize, Aim)>
+    ensures { (r : Rule) → IsProductionOf r production.now → result ≡ aim_in_rule chains.now r target.now }
+{
+    match target {
+        Target::Attr(Place::Named(symbol, index), name) => aim_at_occurrence(
+            chains.has(name.id),
+            production.occurrence(*symbol, *index),
+            *name,
+        ),
+        Target::Start(name) => Some((
+            0,
+            Aim {
+                way: Way::Start,
+                name: name.id,
+            },
+        )),
+        _ => None,
+    }
 }

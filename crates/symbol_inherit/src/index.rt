@@ -12,7 +12,7 @@ use std::collections::HashMap;
 /// Computations by symbol or occurrence and by what they give values to. Of several of one aim it has the last.
 #[derive(Drop)]
 pub struct Index {
-    owns: HashMap<(u16, u8, u32), Own>,
+    owns: HashMap<(usize, u8, u32), Own>,
 }
 
 impl Index {
@@ -52,7 +52,7 @@ impl Index {
 
     /// A computation of the symbol or at the occurrence that gives a value to this.
     #[tactic(auto, unfolding(crate::specs::Index::noted))]
-    pub fn find(&self, place: u16, aim: Aim) -> Option<Own>
+    pub fn find(&self, place: usize, aim: Aim) -> Option<Own>
         ensures { result ≡ noted self.now place aim }
     {
         self.owns

@@ -30,7 +30,7 @@ fn candidate(classes: &Classes, index: &Index, x: u16, aim: Aim, y: u16) -> Opti
     ensures { result ≡ (if inherits_by classes.now x y then noted index.now y aim else None) }
 {
     if classes.inherits(x as usize, y as usize) {
-        index.find(y, aim)
+        index.find(y as usize, aim)
     } else {
         None
     }

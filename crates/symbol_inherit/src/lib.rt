@@ -4,8 +4,10 @@
 
 mod aims;
 mod classes;
+mod forced;
 mod index;
 mod left;
 mod notes;
 mod numbers;
+mod rule_notes;
 mod standing;

@@ -20,7 +20,7 @@ pub struct Own {
 #[derive(Clone, Copy)]
 pub struct Note {
     /// The symbol in whose body it stands, or the occurrence in whose rule.
-    pub place: u16,
+    pub place: usize,
     pub aim: Aim,
     pub own: Own,
 }
@@ -36,7 +36,7 @@ fn note_body(notes: &mut Vec<Note>, symbol: u16, body: &[Comp]) -> Result<(), Me
                 at: comp.at,
             };
             notes.push(Note {
-                place: symbol,
+                place: symbol as usize,
                 aim,
                 own,
             })?;

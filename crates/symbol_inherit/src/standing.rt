@@ -22,7 +22,7 @@ pub enum Standing {
 pub fn of_symbol(classes: &Classes, index: &Index, count: u16, x: u16, aim: Aim) -> Standing
     ensures { IsFound classes.now index.now count x aim result }
 {
-    if let Some(own) = index.find(x, aim) {
+    if let Some(own) = index.find(x as usize, aim) {
         return Standing::Computed(own.number);
     }
     let Some(left) = first_left(classes, index, count, x, aim, None) else {

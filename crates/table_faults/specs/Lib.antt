@@ -2,3 +2,4 @@ pub mod Faults
 pub mod Parts
 pub mod Indices
 pub mod Unknown
+pub mod Roots

@@ -4,9 +4,11 @@
 mod duplicates;
 mod indices;
 mod outputs;
+mod roots;
 mod unknown;
 
 pub use duplicates::least_duplicate;
 pub use indices::least_bad_index;
 pub use outputs::least_bad_out;
+pub use roots::root_count;
 pub use unknown::least_unknown;

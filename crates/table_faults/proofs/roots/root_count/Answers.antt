@@ -1,0 +1,12 @@
+use Rattle.std.proofs.Common.{List, arith, subst}
+use Rattle.lido_syntax.specs.declared.spec.RuleItem.{RuleItem}
+use Rattle.table_faults.specs.Roots.{AreRootsOf}
+use Rattle.table_faults.proofs.RootsLemmas.{roots-are}
+use Rattle.table_faults.proofs.roots.root_count.Goals as goal
+
+pub returns : goal.returns
+returns c = λ env. (
+  c.in_ok-names.names.items,
+  roots-are c.args.spec.now env c.args.sets.now c.in_ok-names.names.items c.requires (subst (λ (rules : List RuleItem). AreRootsOf c.args.sets.now rules c.in_ok-names.names.items) c.as_slice.ensures c.in_ok-names.ensures),
+  (let h = c.len.ensures in omega (arith, h)),
+)

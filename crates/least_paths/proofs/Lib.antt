@@ -3,3 +3,4 @@ pub mod MarkLemmas
 pub mod LevelLemmas
 pub mod PathLemmas
 pub mod CycleLemmas
+pub mod WithoutLemmas

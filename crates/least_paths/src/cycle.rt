@@ -4,8 +4,8 @@ ghost use Rattle.lido_base.specs.Reach.{IsLeastCycle, IsClosedPath};
 ghost use Rattle.least_paths.specs.Graph.{IsGraph, has_edge, is_in};
 ghost use Rattle.least_paths.specs.Cycle.{items_of, IsFound, IsFrom, shorter_of};
 
+use crate::edges::row;
 use crate::path::least_path;
-use crate::turned::row;
 use lido_base::List;
 use std::alloc::{AllocError, Global};
 

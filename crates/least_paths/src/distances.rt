@@ -5,7 +5,7 @@ ghost use Rattle.lido_base.specs.Reach.{Reaches};
 ghost use Rattle.least_paths.specs.Graph.{IsGraph, IsEdge, has_edge, is_in, row_of};
 ghost use Rattle.least_paths.specs.Distances.{IsMarked, AreDistances};
 
-use crate::turned::{row, turned};
+use crate::edges::{row, turned};
 use lido_base::List;
 use std::alloc::{AllocError, Global};
 

@@ -6,9 +6,12 @@
 
 mod cycle;
 mod distances;
+mod edges;
+mod kept;
 mod path;
-mod turned;
 
 pub use cycle::least_cycle;
 pub use distances::reaching;
+pub use edges::turned;
+pub use kept::without;
 pub use path::least_path;

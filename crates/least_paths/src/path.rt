@@ -7,7 +7,7 @@ ghost use Rattle.least_paths.specs.Distances.{AreDistances, IsAt};
 ghost use Rattle.least_paths.specs.Path.{pred_of, IsLess, IsNearest, IsStep, IsNearer, IsBestBelow};
 
 use crate::distances::distances;
-use crate::turned::row;
+use crate::edges::row;
 use lido_base::List;
 use std::alloc::{AllocError, Global};
 

@@ -3,7 +3,7 @@ use Rattle.std.proofs.lemmas.Option.{slice_get-get_or}
 use Rattle.std.proofs.lemmas.List.{length-set}
 use Rattle.lido_base.proofs.Lists.{place-contains}
 use Rattle.least_paths.proofs.GraphLemmas.{edges-next, edges-all}
-use Rattle.least_paths.proofs.turned.add_edges.Goals as goal
+use Rattle.least_paths.proofs.edges.add_edges.Goals as goal
 
 pub index_mut-requires : goal.index_mut-requires
 index_mut-requires c =

@@ -1,7 +1,7 @@
 use Rattle.std.proofs.Common.{◌≡◌, ℕ, ◌<◌, length}
 use Rattle.std.specs.Prelude.{◌↔◌}
 use Rattle.least_paths.specs.Graph.{IsEdge}
-use Rattle.least_paths.proofs.turned.turned.Given as goal
+use Rattle.least_paths.proofs.edges.turned.Given as goal
 
 -- the edges from the vertices so far
 abbrev pub invariant-loop-x : goal.invariant-loop-x

@@ -1,7 +1,7 @@
 use Rattle.std.proofs.Common.{◌∙◌, List, ℕ, subst, arith}
 use Rattle.std.specs.Prelude.{Contains}
 use Rattle.least_paths.proofs.GraphLemmas.{turned-next, edge-below}
-use Rattle.least_paths.proofs.turned.turned.Goals as goal
+use Rattle.least_paths.proofs.edges.turned.Goals as goal
 
 pub loop-x-init : goal.loop-x-init
 loop-x-init c = record { count = c.in_ok-back.ensures.count; edges = λ x y. ((λ m. absurd (c.in_ok-back.ensures.edges y x m)), (λ h. absurd (let l = h.0 in omega arith))) }

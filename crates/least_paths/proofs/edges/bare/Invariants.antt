@@ -1,6 +1,6 @@
 use Rattle.std.proofs.Common.{◌≡◌, ℕ, List, [], length, Some}
 use Rattle.std.specs.Prelude.{slice_get}
-use Rattle.least_paths.proofs.turned.bare.Given as goal
+use Rattle.least_paths.proofs.edges.bare.Given as goal
 
 -- so many vertices without edges
 abbrev pub invariant-loop : goal.invariant-loop

@@ -40,7 +40,7 @@ fn bare(alloc: Global, count: usize) -> Result<Vec<List<usize>>, AllocError>
     Ok(back)
 }
 
-/// The graph with an edge from y to x for each edge from x to y.
+/// The graph with an edge from y to x for each edge from x to y. An `Err` is want of memory.
 pub fn turned(alloc: Global, next: &[List<usize>]) -> Result<Vec<List<usize>>, AllocError>
     requires { IsGraph next.now }
     ensures count { IfOk result (λ back. length back.items ≡ length next.now) }

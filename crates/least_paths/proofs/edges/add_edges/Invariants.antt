@@ -1,7 +1,7 @@
 use Rattle.std.proofs.Common.{◌≡◌, ℕ, ◌⊎◌, take, length}
 use Rattle.std.specs.Prelude.{Contains, ◌↔◌}
 use Rattle.least_paths.specs.Graph.{IsEdge}
-use Rattle.least_paths.proofs.turned.add_edges.Given as goal
+use Rattle.least_paths.proofs.edges.add_edges.Given as goal
 
 -- the edges so far
 abbrev pub invariant-loop-y : goal.invariant-loop-y

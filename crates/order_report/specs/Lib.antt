@@ -2,3 +2,4 @@ pub mod Statuses
 pub mod Names
 pub mod Lines
 pub mod Writing
+pub mod Report

@@ -1,5 +1,5 @@
 -- What a sink has taken of a text.
-use Rattle.std.specs.Prelude.{◌≡◌, ◌<◌, ◌≤◌, ◌+◌, ◌-◌, ◌^◌, ℕ, min, List, length, take, Option, Result, IfOk, IfErr, OnErr}
+use Rattle.std.specs.Prelude.{◌≡◌, ◌<◌, ◌≤◌, ◌+◌, ◌-◌, ◌^◌, ◌++◌, ℕ, min, List, length, take, Option, Result, IfOk, IfErr, OnErr}
 use Rattle.std.specs.Io.KnownBytes.{Appends}
 use Rattle.lido_base.specs.Causes.{Rose}
 use Rattle.lido_base.specs.declared.whole.WriteFault.{WriteFault}
@@ -28,3 +28,9 @@ pub record Puts (done : ℕ) (text : List ℕ) (old new : Option (List ℕ)) (be
   pub part : IfErr result (λ e. PutsPart done text old new e.written)
   pub fault : OnErr result (Rose before now)
   pub later : before ≤ now
+
+-- Whatever was handed over before, and however far that came, the text comes behind it: all of it, or a part if the sink failed in it, or
+-- nothing if it failed before.
+abbrev pub Extends : List ℕ → Option (List ℕ) → ℕ → Result ℕ WriteFault → Option (List ℕ) → ℕ → Result ℕ WriteFault → Type 0
+Extends text mid between so_far new now result = (front : List ℕ) (old : Option (List ℕ)) (before : ℕ)
+    → Puts 0 front old mid before between so_far → Puts 0 (front ++ text) old new before now result

@@ -4,9 +4,11 @@
 pub mod laws;
 mod lines;
 mod names;
+mod report;
 mod status;
 mod writing;
 
 pub use lines::write_fault;
 pub use names::{Names, RuleNames};
+pub use report::write_order;
 pub use status::{Status, Which};

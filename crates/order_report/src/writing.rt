@@ -3,7 +3,7 @@ ghost use Rattle.std.specs.Prelude.{◌≡◌, ◌<◌, length, All};
 ghost use Rattle.std.specs.List.{flat_map};
 ghost use Rattle.order_report.specs.Lines.{IsName, name_of, path_of, line};
 ghost use Rattle.order_report.specs.Names.{texts_in};
-ghost use Rattle.order_report.specs.Writing.{Puts};
+ghost use Rattle.order_report.specs.Writing.{Extends, Puts};
 
 use lido_base::{Sink, StrId, Strings, WriteFault, write_all};
 
@@ -84,6 +84,35 @@ pub fn write_line<K: Sink>(
     };
     match put_path(sink, worded, strings, path) {
         Ok(count) => put(sink, count, b"\n"),
+        Err(fault) => Err(fault),
+    }
+}
+
+/// Hands over one piece more, unless the sink has failed.
+pub fn add<K: Sink>(
+    sink: &mut K,
+    so_far: Result<u64, WriteFault>,
+    piece: &[u8],
+) -> Result<u64, WriteFault>
+    ensures { Extends piece.now (K.written sink.old) (K.faults sink.old) so_far (K.written sink.new) (K.faults sink.new) result }
+{
+    match so_far {
+        Ok(done) => put(sink, done, piece),
+        Err(fault) => Err(fault),
+    }
+}
+
+/// Hands over some pieces more, unless the sink has failed.
+pub fn add_pieces<K: Sink>(
+    sink: &mut K,
+    so_far: Result<u64, WriteFault>,
+    pieces: &[&[u8]],
+) -> Result<u64, WriteFault>
+    ensures { Extends (flat_map (λ piece. piece.now) pieces.now) (K.written sink.old) (K.faults sink.old) so_far
+        (K.written sink.new) (K.faults sink.new) result }
+{
+    match so_far {
+        Ok(done) => put_pieces(sink, done, pieces),
         Err(fault) => Err(fault),
     }
 }

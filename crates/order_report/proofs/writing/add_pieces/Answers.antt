@@ -1,0 +1,5 @@
+use Rattle.order_report.proofs.PutsLemmas.{extends_done}
+use Rattle.order_report.proofs.writing.add_pieces.Goals as goal
+
+pub returns-in-Ok : goal.returns-in-Ok
+returns-in-Ok g c = rw c.in-Ok.is (extends_done _ _ c.in-Ok.done _ _ _ _ c.put_pieces.ensures)

@@ -4,3 +4,4 @@ pub mod LevelLemmas
 pub mod PathLemmas
 pub mod CycleLemmas
 pub mod WithoutLemmas
+pub mod AgreeLemmas

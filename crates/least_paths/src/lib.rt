@@ -8,10 +8,12 @@ mod cycle;
 mod distances;
 mod edges;
 mod kept;
+mod laws;
 mod path;
 
 pub use cycle::least_cycle;
 pub use distances::reaching;
 pub use edges::turned;
 pub use kept::without;
+pub use laws::agreeing_tests_have_one_graph;
 pub use path::least_path;

@@ -1,3 +1,4 @@
 pub mod LeastLemmas
 pub mod NamesLemmas
 pub mod SetsLemmas
+pub mod SidesLemmas

@@ -4,3 +4,4 @@ pub mod Names
 pub mod Sets
 pub mod Symbols
 pub mod Comps
+pub mod Sides

@@ -5,10 +5,12 @@ mod comps;
 mod least;
 mod names;
 mod sets;
+mod sides;
 mod symbols;
 
 pub use comps::{body_clash, comp_clash};
 pub use least::earlier;
 pub use names::Names;
 pub use sets::NameSets;
+pub use sides::rule_comp_clash;
 pub use symbols::{class_in_productions, inherits_no_class, terminal_in_lists};

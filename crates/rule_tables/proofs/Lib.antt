@@ -1,3 +1,4 @@
 pub mod SlotLemmas
 pub mod NeedsLemmas
 pub mod PlainLemmas
+pub mod RootLemmas

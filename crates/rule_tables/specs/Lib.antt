@@ -10,3 +10,4 @@ pub mod ExpansionFaults
 pub mod TablesOf
 pub mod ForcedOf
 pub mod ExtraOf
+pub mod Roots

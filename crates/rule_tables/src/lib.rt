@@ -4,6 +4,7 @@
 mod extra;
 mod forced;
 mod laws;
+mod root;
 mod rule_shapes;
 mod tables;
 mod written;

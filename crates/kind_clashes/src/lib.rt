@@ -1,6 +1,7 @@
 //! Names that are used or declared as two things, and the least place where one is.
 #![tactic(auto)]
 
+mod bodies;
 mod comps;
 mod least;
 mod names;
@@ -8,6 +9,7 @@ mod sets;
 mod sides;
 mod symbols;
 
+pub use bodies::{clash_in_rules, clash_in_symbols};
 pub use comps::{body_clash, comp_clash};
 pub use least::earlier;
 pub use names::Names;

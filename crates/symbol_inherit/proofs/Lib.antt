@@ -7,3 +7,4 @@ pub mod StandingLemmas
 pub mod SingleLemmas
 pub mod RuleLemmas
 pub mod ForceLemmas
+pub mod HeirLemmas

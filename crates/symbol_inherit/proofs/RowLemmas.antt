@@ -117,16 +117,15 @@ module _ (t : Tables) (env : Environment) (is : AreTablesOf env t) where
       (x.1, subst (λ n. slice_get t.spec.rules n ≡ Some x.1) (let z : x.0 - 0 ≡ x.0 = omega arith in z ∙ e) h.1)
 
   -- behind the named rows there are cells alone
-  past-named : (x : ℕ) (row : SymbolRow) → slice_get t.symbols x ≡ Some row → length (named_symbols t) ≤ x → row.class ≡ class.Cell
+  pub past-named : (x : ℕ) (row : SymbolRow) → slice_get t.symbols x ≡ Some row → length (named_symbols t) ≤ x → (row.class ≡ class.Cell) × (row.classes ≡ [])
   past-named x row e h =
       let within = slice_get_within t.symbols x row e in
       let count = is.count in
-      let n = length (named_symbols t) in
-      let k = x - length (named_symbols t) in
       let (i, f) = place-below (lists t.spec (named_symbols t)) (x - length (named_symbols t)) (omega arith) in
       let (r, g) = list-rule i (place-contains (lists t.spec (named_symbols t)) (x - length (named_symbols t)) i f) in
       let z : x ≡ length (named_symbols t) + (x - length (named_symbols t)) = omega arith in
-      (is.cells (x - length (named_symbols t)) i r row f g (subst (λ y. slice_get t.symbols y ≡ Some row) z e)).class
+      let cell = is.cells (x - length (named_symbols t)) i r row f g (subst (λ y. slice_get t.symbols y ≡ Some row) z e) in
+      (cell.class, cell.classes)
 
   cell-named : (s : ℕ) (row : SymbolRow) → row.class ≡ class.Cell → is_named s row ≡ true → ⊥
   cell-named s row e h = let f = ap (λ (c : SymbolClass). is_of c row.name.0 s) e in cc
@@ -143,7 +142,7 @@ module _ (t : Tables) (env : Environment) (is : AreTablesOf env t) where
 
       by : (x < length (named_symbols t)) ⊎ (length (named_symbols t) ≤ x) → slice_get (named_symbols t) x ≡ Some s
       by (inl lt) = let (q, f) = place-below (named_symbols t) x lt in f ∙ ap Some (sym (is.rows x q row f e).name ∙ name row.class h)
-      by (inr le) = absurd (cell-named s row (past-named x row e le) h)
+      by (inr le) = absurd (cell-named s row (past-named x row e le).0 h)
 
   pub number-named : (x s : ℕ) → slice_get (named_symbols t) x ≡ Some s → (row : SymbolRow) × (slice_get t.symbols x ≡ Some row) × (is_named s row ≡ true)
   number-named x s e =

@@ -1,6 +1,11 @@
 -- Inheritance as rows of bits, and the classes that are left for a goal.
-use Rattle.std.specs.Prelude.{◌≡◌, ℕ, ◌<◌, ◌≤◌, ◌↔◌, Bool, false, ◌&&◌, nat_eq, nat_le, if◌then◌else◌, IsTrue, List, Option, Some, None, slice_get, is_some, unwrap_or, MatchOption}
+use Rattle.std.specs.Prelude.{◌≡◌, ℕ, ◌<◌, ◌≤◌, ◌↔◌, Bool, false, ◌&&◌, nat_eq, nat_le, if◌then◌else◌, IsTrue, map, List, Option, Some, None, slice_get, is_some, unwrap_or, MatchOption, length}
+use Rattle.std.proofs.Common.{Vec, Global}
+use Rattle.lido_base.specs.Reach.{Reaches}
+use Rattle.lido_base.specs.declared.ids.SymId.{SymId}
+use Rattle.least_paths.specs.Graph.{has_edge}
 use Rattle.lido_syntax.specs.Sets.{Inherits}
+use Rattle.rule_tables.specs.declared.tables.SymbolRow.{SymbolRow}
 use Rattle.rule_tables.specs.declared.tables.Tables.{Tables}
 use Rattle.rule_tables.specs.TablesOf.{named_symbols}
 use Rattle.symbol_inherit.specs.Index.{noted}
@@ -14,8 +19,12 @@ abbrev pub is_set : List Bool → ℕ → Bool
 is_set row x = unwrap_or (slice_get row x) false
 
 -- the rows say that x inherits y
+abbrev pub is_set_in : Option (Vec Bool Global) → ℕ → Bool
+is_set_in None x = false
+is_set_in (Some row) x = is_set row.items x
+
 abbrev pub inherits_by : Classes → ℕ → ℕ → Bool
-inherits_by classes x y = elim (slice_get classes.heirs.items y) [ None ↦ false | Some row ↦ is_set row.items x ]
+inherits_by classes x y = is_set_in (slice_get classes.heirs.items y) x
 
 -- the rows are those of the tables
 abbrev pub AreHeirs : Tables → Classes → Type 0
@@ -31,6 +40,25 @@ earlier_of (Some left) next = if nat_le left.own.at next.own.at then left else n
 abbrev pub is_that : Option ℕ → ℕ → Bool
 is_that None y = false
 is_that (Some e) y = nat_eq e y
+
+-- the classes that the row's items name behind INHERITS, and the graph of them
+abbrev pub edges_of : SymbolRow → List ℕ
+edges_of row = map (λ (class : SymId). class.0) row.classes
+
+abbrev pub graph_of : List SymbolRow → List (List ℕ)
+graph_of = map edges_of
+
+-- the vertices from which edges lead to y, one at least
+abbrev pub AreReaching : List (List ℕ) → ℕ → List Bool → Type 0
+AreReaching graph y set = (x : ℕ) → IsTrue (is_set set x) ↔ Reaches (λ z. has_edge graph z y) (has_edge graph) x
+
+-- for each of the first vertices those that reach it
+pub record AreRows (graph : List (List ℕ)) (n : ℕ) (rows : List (Vec Bool Global)) : Type 0 where
+  pub count : length rows ≡ n
+  pub each : (y : ℕ) (row : Vec Bool Global) → slice_get rows y ≡ Some row → AreReaching graph y row.items
+
+abbrev pub HasReaching : List (List ℕ) → Classes → Type 0
+HasReaching graph classes = AreRows graph (length graph) classes.heirs.items
 
 module _ (classes : Classes) (index : Index) (x : ℕ) (aim : Aim) where
   -- a class that x inherits and that computes the aim

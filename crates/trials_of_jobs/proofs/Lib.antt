@@ -6,3 +6,4 @@ pub mod SplitItems
 pub mod SplitNotes
 pub mod TwoArguments
 pub mod OpenNodes
+pub mod WalkLemmas

@@ -28,8 +28,8 @@ fn add_edges(back: &mut Vec<List<usize>>, row: &[usize], x: usize) -> Result<(),
     Ok(())
 }
 
-/// The graph without edges.
-fn bare(alloc: Global, count: usize) -> Result<Vec<List<usize>>, AllocError>
+/// The graph without edges, of so many vertices. An `Err` is want of memory.
+pub fn bare(alloc: Global, count: usize) -> Result<Vec<List<usize>>, AllocError>
     ensures count { IfOk result (λ back. length back.items ≡ count) }
     ensures edges { IfOk result (λ back. (u v : ℕ) → ¬ IsEdge back.items u v) }
 {

@@ -13,7 +13,7 @@ mod path;
 
 pub use cycle::least_cycle;
 pub use distances::reaching;
-pub use edges::turned;
+pub use edges::{bare, turned};
 pub use kept::without;
 pub use laws::agreeing_tests_have_one_graph;
 pub use path::least_path;

@@ -1,5 +1,5 @@
 -- Walks that add something for each element to what was found.
-use Rattle.std.proofs.Common.{◌≡◌, ℕ, ◌+◌, ◌<◌, ◌≤◌, List, [], ◌∷◌, ◌++◌, length, take, get_or, flat_map, filter_map, Option, Some, None, Bool, true, false, if◌then◌else◌, nat_eq, suc, zero, option_to_list, ◌||◌, refl, ap, sym, ◌∙◌, append_assoc, arith, add-zero, zero-add, map, length-append}
+use Rattle.std.proofs.Common.{◌≡◌, ℕ, ◌+◌, ◌<◌, ◌≤◌, List, [], ◌∷◌, ◌++◌, length, take, get_or, flat_map, filter_map, Option, Some, None, Bool, true, false, if◌then◌else◌, nat_eq, suc, option_to_list, ◌||◌, refl, ap, sym, ◌∙◌, append_assoc, arith, add-zero, zero-add, map}
 use Rattle.std.proofs.lemmas.List.{append-nil, take_more, take_all, map-append, length-map, length-take-le}
 use Rattle.std.specs.List.{cons_option, list_any}
 use Rattle.lido_base.specs.declared.ids.StrId.{StrId}

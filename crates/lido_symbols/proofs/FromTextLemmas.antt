@@ -1,6 +1,6 @@
 -- The places of a specification that was read from a text tell the names that stand as symbols and as attributes.
-use Rattle.std.specs.Prelude.{Contains, nat_eq, map, flat_map, filter, not, ℤ, Option}
-use Rattle.std.proofs.Common.{◌≡◌, ℕ, ◌⊎◌, inl, inr, Bool, true, false, List, [], ◌∷◌, ◌++◌, refl, ap, sym, subst, ◌∙◌, if◌then◌else◌}
+use Rattle.std.specs.Prelude.{Contains, map, flat_map, not, ℤ, Option}
+use Rattle.std.proofs.Common.{◌≡◌, inl, inr, Bool, true, false, List, [], ◌∷◌, ◌++◌, subst, if◌then◌else◌}
 use Rattle.std.proofs.lemmas.List.Elements.{Contains-append_left, Contains-append_right, Contains-append_cases}
 use Rattle.lido_base.proofs.Lists.{contains-nil, contains-map, map-contains, contains-flat, flat-contains}
 use Rattle.lido_base.specs.Environment.{Environment}

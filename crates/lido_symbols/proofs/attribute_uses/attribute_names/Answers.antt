@@ -2,7 +2,7 @@ use Rattle.std.proofs.Common.{◌≡◌, ◌++◌, ◌∙◌, ap, map, flat_map,
 use Rattle.lido_syntax.specs.declared.spec.Decl.{Decl as Declared}
 use Rattle.lido_syntax.specs.declared.spec.RuleItem.{RuleItem as Rule}
 use Rattle.lido_syntax.specs.declared.spec.SymbolItem.{SymbolItem as Item}
-use Rattle.lido_symbols.specs.Uses.{computations, declared_names, with_place}
+use Rattle.lido_symbols.specs.Uses.{declared_names, with_place}
 use Rattle.lido_symbols.specs.Occurrences.{attributes_of}
 use Rattle.lido_symbols.proofs.CollectedLemmas.{map_behind, flat_both}
 use Rattle.lido_symbols.proofs.attribute_uses.attribute_names.Goals as goal

@@ -1,8 +1,7 @@
-use Rattle.std.proofs.Common.{◌≡◌, ◌++◌, map, flat_map, take}
+use Rattle.std.proofs.Common.{◌≡◌, ◌++◌, flat_map, take}
 use Rattle.std.specs.Borrow.{Bor}
 use Rattle.lido_syntax.specs.declared.spec.Expr.{Expr}
 use Rattle.lido_symbols.specs.Uses.{attributes_in}
-use Rattle.lido_symbols.specs.Occurrences.{attributes_of}
 use Rattle.lido_symbols.proofs.attribute_uses.push_comp.Given as goal
 
 abbrev pub invariant-loop-leaf : goal.invariant-loop-leaf

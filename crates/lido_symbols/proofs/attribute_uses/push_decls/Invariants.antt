@@ -1,7 +1,5 @@
-use Rattle.std.proofs.Common.{◌≡◌, ◌++◌, map, flat_map, take}
+use Rattle.std.proofs.Common.{◌≡◌, ◌++◌, map, take}
 use Rattle.lido_syntax.specs.declared.spec.Decl.{Decl as Declared}
-use Rattle.lido_symbols.specs.Uses.{attributes_in}
-use Rattle.lido_symbols.specs.Occurrences.{attributes_of}
 use Rattle.lido_symbols.proofs.attribute_uses.push_decls.Given as goal
 
 abbrev pub invariant-loop-decl : goal.invariant-loop-decl

@@ -1,8 +1,6 @@
 use Rattle.std.proofs.Common.{◌≡◌, ◌++◌, map, flat_map, take}
 use Rattle.lido_syntax.specs.declared.spec.Decl.{Decl as Declared}
 use Rattle.lido_syntax.specs.declared.spec.SymbolItem.{SymbolItem as Item}
-use Rattle.lido_symbols.specs.Uses.{attributes_in}
-use Rattle.lido_symbols.specs.Occurrences.{attributes_of}
 use Rattle.lido_symbols.proofs.attribute_uses.push_item_decls.Given as goal
 
 abbrev pub invariant-loop-item : goal.invariant-loop-item

@@ -1,7 +1,5 @@
-use Rattle.std.proofs.Common.{◌≡◌, ◌++◌, map, flat_map, take}
+use Rattle.std.proofs.Common.{◌≡◌, ◌++◌, map, take}
 use Rattle.lido_syntax.specs.declared.spec.Pair.{Pair as OnePair}
-use Rattle.lido_symbols.specs.Uses.{attributes_in}
-use Rattle.lido_symbols.specs.Occurrences.{attributes_of}
 use Rattle.lido_symbols.proofs.attribute_uses.push_pairs.Given as goal
 
 abbrev pub invariant-loop-pair : goal.invariant-loop-pair

@@ -1,6 +1,5 @@
-use Rattle.std.proofs.Common.{◌≡◌, ◌++◌, map, flat_map, take}
+use Rattle.std.proofs.Common.{◌≡◌, ◌++◌, flat_map, take}
 use Rattle.lido_syntax.specs.declared.spec.RuleItem.{RuleItem as Rule}
-use Rattle.lido_symbols.specs.Uses.{attributes_in}
 use Rattle.lido_symbols.specs.Occurrences.{attributes_of}
 use Rattle.lido_symbols.proofs.attribute_uses.push_rules.Given as goal
 

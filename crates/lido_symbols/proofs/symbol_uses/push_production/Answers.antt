@@ -1,4 +1,4 @@
-use Rattle.std.proofs.Common.{◌≡◌, ◌++◌, ◌∷◌, [], ◌∙◌, ap, sym, refl, option_to_list, flat_map, get_or}
+use Rattle.std.proofs.Common.{◌++◌, ◌∷◌, [], ◌∙◌, ap, refl, option_to_list, flat_map, get_or}
 use Rattle.lido_syntax.specs.declared.spec.Element.{Element}
 use Rattle.lido_syntax.specs.declared.spec.Element.TheVariants.{Symbol}
 use Rattle.lido_symbols.specs.Uses.{element_name}

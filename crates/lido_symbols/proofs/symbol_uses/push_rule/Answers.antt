@@ -1,5 +1,5 @@
-use Rattle.std.proofs.Common.{◌≡◌, ◌++◌, ◌∙◌, ap, sym, flat_map, append_assoc}
-use Rattle.lido_symbols.specs.Uses.{symbols_of_computation, production_names, is_coordinate_of_rule, is_coordinate_of_symbol}
+use Rattle.std.proofs.Common.{◌++◌, ◌∙◌, ap, flat_map}
+use Rattle.lido_symbols.specs.Uses.{symbols_of_computation, production_names, is_coordinate_of_rule}
 use Rattle.lido_symbols.proofs.CollectedLemmas.{collected_none, collected_more, collected_behind}
 use Rattle.lido_symbols.proofs.symbol_uses.push_rule.Goals as goal
 

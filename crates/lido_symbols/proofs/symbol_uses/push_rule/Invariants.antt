@@ -1,6 +1,6 @@
 use Rattle.std.proofs.Common.{◌≡◌, ◌++◌, flat_map, take}
 use Rattle.lido_base.specs.Environment.{Environment}
-use Rattle.lido_symbols.specs.Uses.{symbols_of_computation, is_coordinate_of_rule, is_coordinate_of_symbol}
+use Rattle.lido_symbols.specs.Uses.{symbols_of_computation, is_coordinate_of_rule}
 use Rattle.lido_symbols.proofs.symbol_uses.push_rule.Given as goal
 
 abbrev pub invariant-loop-comp : goal.invariant-loop-comp

@@ -1,8 +1,8 @@
-use Rattle.std.proofs.Common.{◌≡◌, ◌++◌, ◌∙◌, ap, sym, map}
+use Rattle.std.proofs.Common.{◌++◌, ◌∙◌, ap, sym, map}
 use Rattle.std.specs.Borrow.{Bor}
 use Rattle.lido_syntax.specs.declared.spec.Expr.{Expr}
 use Rattle.lido_syntax.specs.Parts.{leaves_of}
-use Rattle.lido_symbols.specs.Uses.{symbols_in, symbols_of_target, is_coordinate_of_rule, is_coordinate_of_symbol}
+use Rattle.lido_symbols.specs.Uses.{symbols_in, symbols_of_target, is_coordinate_of_rule}
 use Rattle.lido_symbols.proofs.CollectedLemmas.{collected_none, collected_more, collected_seen}
 use Rattle.lido_symbols.proofs.symbol_uses.push_rule_comp.Goals as goal
 

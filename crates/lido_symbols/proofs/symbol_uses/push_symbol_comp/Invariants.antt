@@ -2,7 +2,7 @@ use Rattle.std.proofs.Common.{◌≡◌, ◌++◌, flat_map, take}
 use Rattle.std.specs.Borrow.{Bor}
 use Rattle.lido_base.specs.Environment.{Environment}
 use Rattle.lido_syntax.specs.declared.spec.Expr.{Expr}
-use Rattle.lido_symbols.specs.Uses.{symbols_in, is_coordinate_of_rule, is_coordinate_of_symbol}
+use Rattle.lido_symbols.specs.Uses.{symbols_in, is_coordinate_of_symbol}
 use Rattle.lido_symbols.proofs.symbol_uses.push_symbol_comp.Given as goal
 
 abbrev pub invariant-loop-leaf : goal.invariant-loop-leaf

@@ -8,3 +8,4 @@ pub mod SingleLemmas
 pub mod RuleLemmas
 pub mod ForceLemmas
 pub mod HeirLemmas
+pub mod CycleLemmas

@@ -4,6 +4,7 @@
 
 mod aims;
 mod classes;
+mod cycle;
 mod forced;
 mod index;
 mod left;
@@ -11,3 +12,5 @@ mod notes;
 mod numbers;
 mod rule_notes;
 mod standing;
+
+pub use cycle::class_cycle;

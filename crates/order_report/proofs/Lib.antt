@@ -1,3 +1,4 @@
 pub mod PutsLemmas
 pub mod LinesLemmas
 pub mod ReportLemmas
+pub mod CyclesLemmas

@@ -3,3 +3,4 @@ pub mod Names
 pub mod Lines
 pub mod Writing
 pub mod Report
+pub mod CycleLines

@@ -142,7 +142,7 @@ fn symbol_name<'a>(strings: &'a Strings, symbols: &[FlatSymbol], symbol: SymId) 
 }
 
 /// How often the symbol stands among these.
-fn count(symbol: SymId, among: &[SymId]) -> u64
+pub fn count(symbol: SymId, among: &[SymId]) -> u64
     ensures is { result ≡ occurrences symbol among.now }
     ensures few { result ≤ length among.now }
 {
@@ -160,7 +160,7 @@ fn count_up_to(rule: &FlatRule, symbol: SymId, occ: usize) -> u64
 }
 
 /// An index in brackets, where a symbol occurs more than once.
-fn add_index<K: Sink>(
+pub fn add_index<K: Sink>(
     sink: &mut K,
     so_far: Result<u64, WriteFault>,
     occurrences: u64,

@@ -2,7 +2,9 @@
 ghost use Rattle.std.specs.Prelude.{◌≡◌, IsTrue, IfOk, map};
 ghost use Rattle.lido_syntax.specs.Parts.{leaves_of};
 ghost use Rattle.kind_clashes.specs.Least.{IsFirst, Among};
-ghost use Rattle.kind_clashes.specs.Comps.{IsUseClash, IsTerminalName, IsPairClash, IsLeafClash, IsThisClash, IsTargetClash, IsTail, IsFromBelow, IsBarredByStart, IsBarredAt, IsBarredByInh, IsCompClash, IsBodyClash};
+ghost use Rattle.kind_clashes.specs.Comps.{IsUseClash, IsTerminalName, IsPairClash, IsLeafClash};
+ghost use Rattle.kind_clashes.specs.Comps.{IsThisClash, IsTargetClash, IsTail, IsFromBelow};
+ghost use Rattle.kind_clashes.specs.Comps.{IsBarredByStart, IsBarredAt, IsBarredByInh, IsCompClash, IsBodyClash};
 
 use crate::least::earlier;
 use crate::names::if_in;

@@ -7,7 +7,9 @@ ghost use Rattle.lido_syntax.specs.Production.{name_of};
 ghost use Rattle.kind_clashes.specs.Least.{IsFirst, Among};
 ghost use Rattle.kind_clashes.specs.Sets.{AreNameSets};
 ghost use Rattle.table_faults.specs.Faults.{IsUnknown};
-ghost use Rattle.table_faults.specs.Unknown.{is_known_in, IsUnknownName, IsStrange, IsForeignPlace, IsForeignTarget, IsNamedPlace, IsNamedTarget, IsForeignBare, IsForeignLeaf, IsForeignComp, IsNamedLeaf, IsNamedComp};
+ghost use Rattle.table_faults.specs.Unknown.{is_known_in, IsUnknownName, IsStrange, IsForeignPlace, IsForeignTarget};
+ghost use Rattle.table_faults.specs.Unknown.{IsNamedPlace, IsNamedTarget, IsForeignBare};
+ghost use Rattle.table_faults.specs.Unknown.{IsForeignLeaf, IsForeignComp, IsNamedLeaf, IsNamedComp};
 
 use kind_clashes::{NameSets, earlier};
 use lido_base::{Memory, StrId, Strings};

@@ -41,8 +41,8 @@ pub fn class_cycle(alloc: Global, tables: &Tables) -> Result<Option<List<StrId>>
     requires { (env : Environment) × AreTablesOf env tables.now }
     ensures cycle { IfOk result (λ found. IfSome found (λ path. (T : Numbered tables.now.spec) → T.symbols ≡ named_symbols tables.now
         → IsClassCycle tables.now.spec T (Fault.ClassCycle path))) }
-    ensures none { IfOk result (λ found. IfNone found ((T : Numbered tables.now.spec) (fault : AnyFault) → T.symbols ≡ named_symbols tables.now
-        → ¬ IsClassCycle tables.now.spec T fault)) }
+    ensures none { IfOk result (λ found. IfNone found ((T : Numbered tables.now.spec) (fault : AnyFault)
+        → T.symbols ≡ named_symbols tables.now → ¬ IsClassCycle tables.now.spec T fault)) }
 {
     let rows = tables.symbols.as_slice();
     let graph = heirs_graph(alloc, rows)?;

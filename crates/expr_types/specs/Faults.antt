@@ -99,11 +99,11 @@ module _ (spec : Spec) (sets : Sets spec) where
       IsCallFault InArguments g args f =
           ((function_of env g ≡ None) × (f ≡ fault.UnknownFunction g.at))
           ⊎ ((function : Function) × (function_of env g ≡ Some function)
-              × ((¬ TakesMany function (length (begins args)) × (f ≡ fault.ArgCount g.at))
-                ⊎ (TakesMany function (length (begins args))
-                  × (InArguments f
-                    ⊎ ((types : List ValueType) × (k at : ℕ) × HaveTypes spec sets env holder r own args types × IsFirstMisfit function types k
-                      × (slice_get (begins args) k ≡ Some at) × (f ≡ fault.TypeMismatch at))))))
+          × ((¬ TakesMany function (length (begins args)) × (f ≡ fault.ArgCount g.at))
+          ⊎ (TakesMany function (length (begins args))
+          × (InArguments f
+          ⊎ ((types : List ValueType) × (k at : ℕ) × HaveTypes spec sets env holder r own args types × IsFirstMisfit function types k
+          × (slice_get (begins args) k ≡ Some at) × (f ≡ fault.TypeMismatch at))))))
 
       abbrev mutual
         -- the first fault of an expression

@@ -3,3 +3,4 @@ pub mod Calls
 pub mod Computations
 pub mod Faults
 pub mod TypeFaults
+pub mod Named

@@ -1,8 +1,10 @@
-//! Types of expressions, as definitions.
+//! Types of expressions.
 #![tactic(auto)]
 
 mod laws;
+mod names;
 mod typed;
 
 pub use laws::{calls_have_the_types_of_their_functions, expressions_have_one_type};
+pub use names::operation_named;
 pub use typed::{NamedOp, Typed};

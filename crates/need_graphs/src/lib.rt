@@ -2,6 +2,8 @@
 //! its right side.
 #![tactic(auto)]
 
+mod chains;
 mod children;
 
+pub use chains::{chain_graph, started};
 pub use children::child_graph;

@@ -1,0 +1,2 @@
+pub mod InheritanceLemmas
+pub mod RowsLemmas

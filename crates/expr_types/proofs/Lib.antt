@@ -1,2 +1,3 @@
 pub mod TypingLemmas
 pub mod CallLemmas
+pub mod RowsLemmas

@@ -4,3 +4,4 @@ pub mod Computations
 pub mod Faults
 pub mod TypeFaults
 pub mod Named
+pub mod Rows

@@ -3,6 +3,8 @@
 
 mod laws;
 mod names;
+mod rows;
+mod table;
 mod typed;
 
 pub use laws::{calls_have_the_types_of_their_functions, expressions_have_one_type};

@@ -1,3 +1,4 @@
 pub mod TypingLemmas
 pub mod CallLemmas
 pub mod RowsLemmas
+pub mod CalleeLemmas

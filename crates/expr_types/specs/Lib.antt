@@ -5,3 +5,4 @@ pub mod Faults
 pub mod TypeFaults
 pub mod Named
 pub mod Rows
+pub mod Callees

@@ -1,6 +1,7 @@
 //! Types of expressions.
 #![tactic(auto)]
 
+mod callee;
 mod laws;
 mod names;
 mod rows;

@@ -1,3 +1,4 @@
 pub mod RangeLemmas
 pub mod EdgeLemmas
 pub mod StartLemmas
+pub mod ReadLemmas

@@ -1,9 +1,13 @@
 //! The graphs along which symbols need INCLUDINGs, CONSTITUENTS and chains: from the left side of a plain rule to each symbol of
-//! its right side.
+//! its right side; and which symbols need a chain.
 #![tactic(auto)]
 
 mod chains;
 mod children;
+mod needs;
+mod reads;
 
 pub use chains::{chain_graph, started};
 pub use children::child_graph;
+pub use needs::chain_needs;
+pub use reads::reads_chain;

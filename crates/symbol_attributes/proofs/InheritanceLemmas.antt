@@ -1,8 +1,7 @@
 -- Along the edges of SYMBOL items a symbol reaches the classes that it inherits.
 use Rattle.std.specs.Prelude.{slice_get, map, Contains, Bool, true, false, IsTrue, nat_eq, ◌↔◌, ◌&&◌, if◌then◌else◌}
 use Rattle.std.specs.Global.{Vec}
-use Rattle.std.specs.List.{list_any}
-use Rattle.std.proofs.Common.{◌≡◌, ℕ, zero, suc, ◌<◌, ◌⊎◌, inl, inr, List, [], ◌∷◌, length, Option, Some, None, refl, sym, ap, subst, ◌∙◌, arith, eqb-true, eq-eqb}
+use Rattle.std.proofs.Common.{◌≡◌, ℕ, suc, ◌<◌, inl, inr, List, [], ◌∷◌, length, Option, Some, None, refl, sym, ap, subst, ◌∙◌, arith, eqb-true, eq-eqb}
 use Rattle.std.proofs.lemmas.Option.{none-some, same_Some, slice_get_within}
 use Rattle.std.proofs.lemmas.List.Folds.{Any-from_list_any, list_any_at}
 use Rattle.lido_base.specs.Tree.{contains}
@@ -14,7 +13,6 @@ use Rattle.lido_syntax.specs.declared.spec.Spec.{Spec}
 use Rattle.lido_syntax.specs.declared.spec.SymbolItem.{SymbolItem}
 use Rattle.lido_syntax.specs.Production.{name_of}
 use Rattle.lido_syntax.specs.Sets.{Inherits, inherits_directly, names_of}
-use Rattle.lido_symbols.specs.Numbers.{place_in}
 use Rattle.least_paths.specs.Graph.{IsGraph, IsEdge, has_edge, is_in}
 use Rattle.least_paths.proofs.GraphLemmas.{edge-test, test-edge}
 use Rattle.symbol_attributes.specs.Inheritance.{number, numbers_of, AreNumberedIn, IsDirectEdge, AreRows, IsInheritance, is_heir, is_in_row}

@@ -1,2 +1,4 @@
 pub mod InheritanceLemmas
 pub mod RowsLemmas
+pub mod UsesLemmas
+pub mod NamedLemmas

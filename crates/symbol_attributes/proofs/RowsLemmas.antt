@@ -1,8 +1,7 @@
 -- Edges that are added list by list, and rows that are added one by one.
-use Rattle.std.specs.Prelude.{slice_get, map, Contains, Bool, IsTrue, ◌↔◌}
+use Rattle.std.specs.Prelude.{slice_get, map, Contains, Bool, ◌↔◌}
 use Rattle.std.specs.Global.{Vec}
 use Rattle.std.proofs.Common.{◌≡◌, ℕ, zero, suc, ◌+◌, ◌≤◌, ◌⊎◌, inl, inr, List, [], ◌∷◌, ◌++◌, take, take_all, length, Some, refl, sym, ap, subst, ◌∙◌, arith}
-use Rattle.std.proofs.lemmas.Option.{none-some}
 use Rattle.std.proofs.lemmas.List.{length_push}
 use Rattle.lido_base.specs.Tree.{contains}
 use Rattle.lido_base.specs.Reach.{Reaches, source, edge}

@@ -1,1 +1,2 @@
 pub mod Inheritance
+pub mod Named

@@ -1,5 +1,5 @@
 use Rattle.std.specs.Prelude.{Contains}
-use Rattle.std.proofs.Common.{◌≡◌, ◌∙◌, ℕ, List, ap, sym, subst}
+use Rattle.std.proofs.Common.{◌∙◌, ℕ, List, ap, subst}
 use Rattle.symbol_attributes.specs.Inheritance.{numbers_of}
 use Rattle.symbol_attributes.proofs.RowsLemmas.{item-edges}
 use Rattle.symbol_attributes.proofs.inheritance.add_item.Goals as goal

@@ -1,5 +1,5 @@
 use Rattle.std.specs.Prelude.{◌↔◌}
-use Rattle.std.proofs.Common.{◌≡◌, ◌∙◌, ℕ, List, sym, subst, length}
+use Rattle.std.proofs.Common.{ℕ, List, sym, subst, length}
 use Rattle.lido_syntax.specs.declared.spec.SymbolItem.{SymbolItem}
 use Rattle.least_paths.specs.Graph.{IsGraph, IsEdge}
 use Rattle.symbol_attributes.specs.Inheritance.{AreNumberedIn, AreRows, IsDirectEdge}

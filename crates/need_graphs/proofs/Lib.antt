@@ -2,3 +2,4 @@ pub mod RangeLemmas
 pub mod EdgeLemmas
 pub mod StartLemmas
 pub mod ReadLemmas
+pub mod PathLemmas

@@ -4,6 +4,7 @@ use Rattle.std.proofs.Common.{◌≡◌, ℕ, suc, ◌<◌, ◌⊎◌, inl, inr,
 use Rattle.std.proofs.lemmas.Option.{slice_get_within}
 use Rattle.std.proofs.lemmas.List.Elements.{Contains-append_left, Contains-append_cases}
 use Rattle.lido_base.specs.Environment.{Environment}
+use Rattle.lido_base.proofs.TreeLemmas.{contains-test}
 use Rattle.lido_base.proofs.Lists.{contains-nil, contains-cons, contains-here, contains-later, contains-map, map-contains, contains-flat, flat-contains}
 use Rattle.lido_syntax.specs.declared.spec.RuleItem.{RuleItem}
 use Rattle.lido_syntax.specs.declared.spec.Typed1.{Typed1}
@@ -148,3 +149,9 @@ module _ (t : Tables) (env : Environment) (is : AreTablesOf env t) where
     | inl h ↦ let x = contains-map (written_rule t.spec symbols) (enumerated 0 t.spec.rules) p h in subst IsInside x.2 (written-inside x.0 x.1)
     | inr h ↦ let x = contains-flat (cell_rules t.spec symbols) (enumerated 0 t.spec.rules) p h in cells-inside x.0 x.1 p x.2
   ]
+
+  -- so has the root
+  pub root-below : t.root.0 < length t.symbols
+  root-below =
+      let r = contains-map left_of t.spec.rules is.root.0 (contains-test is.root.0 (map left_of t.spec.rules) is.root.1.0) in
+      subst (λ n. n < length t.symbols) (ap (number t.spec symbols) r.2 ∙ sym is.root.2) (left-below r.0 r.1)

@@ -11,7 +11,7 @@ use rule_tables::Tables;
 use std::alloc::Global;
 
 /// The set without members, for so many.
-fn none_of(alloc: Global, count: usize) -> Result<Vec<bool>, Memory>
+pub fn none_of(alloc: Global, count: usize) -> Result<Vec<bool>, Memory>
     ensures count { IfOk result (λ set. length set.items ≡ count) }
     ensures empty { IfOk result (λ set. (x : ℕ) → ¬ IsTrue (is_in set.items x)) }
 {

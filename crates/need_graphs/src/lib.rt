@@ -5,9 +5,11 @@
 mod chains;
 mod children;
 mod needs;
+mod paths;
 mod reads;
 
 pub use chains::{chain_graph, started};
 pub use children::child_graph;
 pub use needs::chain_needs;
+pub use paths::chain_path;
 pub use reads::reads_chain;

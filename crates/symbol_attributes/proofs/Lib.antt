@@ -2,3 +2,4 @@ pub mod InheritanceLemmas
 pub mod RowsLemmas
 pub mod UsesLemmas
 pub mod NamedLemmas
+pub mod OwnedLemmas

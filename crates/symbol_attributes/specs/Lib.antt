@@ -1,2 +1,3 @@
 pub mod Inheritance
 pub mod Named
+pub mod Owned

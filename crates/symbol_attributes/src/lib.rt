@@ -1,8 +1,11 @@
-//! The attributes of symbols: which symbols inherit which classes, and which attributes are named on which symbols.
+//! The attributes of symbols: which symbols inherit which classes, which attributes are named on which symbols, and which ones a
+//! symbol has, its own and those of its classes.
 #![tactic(auto)]
 
 mod inheritance;
 mod named;
+mod owned;
 
 pub use inheritance::Inheritance;
 pub use named::{SymbolAttribute, named_attributes};
+pub use owned::attributes_of;

@@ -1,0 +1,6 @@
+//! What a chain is given in plain rules.
+#![tactic(auto)]
+
+mod children;
+
+pub use children::fronts;

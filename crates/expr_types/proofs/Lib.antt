@@ -2,3 +2,4 @@ pub mod TypingLemmas
 pub mod CallLemmas
 pub mod RowsLemmas
 pub mod CalleeLemmas
+pub mod NoFaultLemmas

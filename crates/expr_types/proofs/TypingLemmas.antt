@@ -158,7 +158,7 @@ typed-chain spec c ty (x, m, e, same) =
     test-contains c (map (λ (y : Typed1). name_of y.name) spec.chains) (subst (λ n. Contains (map (λ (y : Typed1). name_of y.name) spec.chains) n) e there)
 
 module _ (spec : Spec) (single : AreSingleTypes spec) (sets : Sets spec) (env : Environment) where
-  one-pairs : (pairs : List Pair) (ty other : ValueType) → ArePairTypes spec sets pairs ty → ArePairTypes spec sets pairs other → ty ≡ other
+  pub one-pairs : (pairs : List Pair) (ty other : ValueType) → ArePairTypes spec sets pairs ty → ArePairTypes spec sets pairs other → ty ≡ other
   one-pairs [] ty other g h = absurd g
   one-pairs (p ∷ ps) ty other g h = single.attribute (name_of p.sym) (name_of p.attr) ty other
       (named ty g) (named other h)
@@ -200,7 +200,7 @@ module _ (spec : Spec) (single : AreSingleTypes spec) (sets : Sets spec) (env : 
           let same : g.0 ≡ h.0 = one-types args g.0 h.0 g.1 h.1 in
           one-call env f h.0 ty other (subst (λ types. IsCall env f types ty) same g.2) h.2
 
-      one-types : {m : _} (k : Row_of-Expr m) (types others : List ValueType) → HaveTypes spec sets env holder r own k types → HaveTypes spec sets env holder r own k others → types ≡ others
+      pub one-types : {m : _} (k : Row_of-Expr m) (types others : List ValueType) → HaveTypes spec sets env holder r own k types → HaveTypes spec sets env holder r own k others → types ≡ others
       one-types end_of-Expr [] [] g h = refl
       one-types end_of-Expr [] (u ∷ us) g h = absurd h
       one-types end_of-Expr (t ∷ ts) us g h = absurd g

@@ -11,6 +11,8 @@ ghost use Rattle.lido_syntax.specs.declared.spec.Spec.{Spec as Specification};
 ghost use Rattle.lido_syntax.specs.declared.spec.Expr.TheVariants as expression;
 ghost use Rattle.expr_types.specs.Calls.{HaveEach};
 ghost use Rattle.expr_types.specs.Typing.{IsCall, HasExprType, AreSingleTypes};
+ghost use Rattle.expr_types.specs.Faults.{IsFirstFault};
+ghost use Rattle.lido_syntax.specs.declared.fault.SpecFault.{SpecFault as Fault};
 
 /// Where attributes, terminals and chains have one type at most, an expression has one type at most in its context; and what
 /// a call gives for arguments of some types has one type.
@@ -28,4 +30,12 @@ pub fn calls_have_the_types_of_their_functions()
         (f : Name) (args : List Expression) (ty : ValueType)
         → HasExprType spec sets env holder r own (expression.Call f args) ty
         ↔ ((types : List ValueType) × HaveEach (HasExprType spec sets env holder r own) args types × IsCall env f types ty) }
+{}
+
+/// Where attributes, terminals and chains have one type at most, an expression that has a type in its context has no first
+/// fault there.
+pub fn typed_expressions_have_no_fault()
+    ensures { (spec : Specification) → AreSingleTypes spec → (sets : Sets spec) (env : Environment)
+        (holder : Holder) (r : Rule) (own : ℕ) (e : Expression) (ty : ValueType) (f : Fault)
+        → HasExprType spec sets env holder r own e ty → IsFirstFault spec sets env holder r own e f → ⊥ }
 {}

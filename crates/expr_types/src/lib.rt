@@ -8,6 +8,9 @@ mod rows;
 mod table;
 mod typed;
 
-pub use laws::{calls_have_the_types_of_their_functions, expressions_have_one_type};
+pub use laws::{
+    calls_have_the_types_of_their_functions, expressions_have_one_type,
+    typed_expressions_have_no_fault,
+};
 pub use names::operation_named;
 pub use typed::{NamedOp, Typed};

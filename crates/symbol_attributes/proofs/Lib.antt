@@ -3,3 +3,4 @@ pub mod RowsLemmas
 pub mod UsesLemmas
 pub mod NamedLemmas
 pub mod OwnedLemmas
+pub mod LawLemmas

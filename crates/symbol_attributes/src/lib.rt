@@ -3,9 +3,11 @@
 #![tactic(auto)]
 
 mod inheritance;
+mod laws;
 mod named;
 mod owned;
 
 pub use inheritance::Inheritance;
+pub use laws::symbols_of_items_are_numbered;
 pub use named::{SymbolAttribute, named_attributes};
 pub use owned::attributes_of;

@@ -40,3 +40,14 @@ pub fn fronts(alloc: Global, needs: &[bool], right: &[SymId]) -> Result<Vec<Opti
     }
     Ok(fronts)
 }
+
+/// The last child of a plain rule that needs the chain: children count from 1. `needs` tells which symbols need the chain.
+pub fn last_child(needs: &[bool], right: &[SymId]) -> Option<usize>
+    ensures { (p : PlainRule) → map (λ (s : Symbol). s.0) right.now ≡ p.right → result ≡ last_of (places (is_in needs.now) p) }
+{
+    let mut last = None;
+    for (k, symbol) in right.iter().enumerate() {
+        last = last_with(is_needed(needs, *symbol), k + 1, last);
+    }
+    last
+}

@@ -3,4 +3,4 @@
 
 mod children;
 
-pub use children::fronts;
+pub use children::{fronts, last_child};

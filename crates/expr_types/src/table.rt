@@ -1,5 +1,5 @@
 //! The table of types.
-ghost use Rattle.std.specs.Prelude.{◌≡◌, List, map};
+ghost use Rattle.std.specs.Prelude.{◌≡◌, List, map, IfOk};
 ghost use Rattle.lido_base.specs.declared.operation.Op.TheVariants as operation;
 ghost use Rattle.lido_base.specs.declared.pattern.Pattern.{Pattern as OnePattern};
 ghost use Rattle.lido_base.specs.Types.{signatures};
@@ -7,7 +7,8 @@ ghost use Rattle.expr_types.specs.Rows.{signatures_of, pattern_signature};
 ghost use Rattle.expr_types.specs.Typing.{choices as all_choices};
 
 use crate::rows::Row;
-use lido_base::{Op, ValueType};
+use lido_base::{Memory, Op, Pattern, ValueType};
+use std::alloc::Global;
 
 /// Two ints give an int.
 static ARITHMETIC: [Row<'static>; 1] = [Row {
@@ -198,4 +199,21 @@ pub(crate) fn rows_of<'a>(patterns: &'a [Row<'a>], op: Op) -> &'a [Row<'a>]
         Op::Seq => &SEQUENCE,
         Op::Pattern(k) => row_at(patterns, k),
     }
+}
+
+/// The rows of the patterns' functions, in the order of the patterns. `Err` is want of memory.
+pub(crate) fn pattern_rows<'a>(
+    alloc: Global,
+    patterns: &'a [Pattern],
+) -> Result<Vec<Row<'a>>, Memory>
+    ensures { IfOk result (λ rows. signatures_of rows.items ≡ map pattern_signature patterns.now) }
+{
+    let mut rows = Vec::new(alloc);
+    for pattern in patterns {
+        rows.push(Row {
+            args: pattern.args.as_slice(),
+            gives: ValueType::Text,
+        })?;
+    }
+    Ok(rows)
 }

@@ -1,6 +1,6 @@
 -- KindClash: a symbol, an attribute or a chain that is used as what it is not, or is declared as two things. Its place is that of
 -- the name or word at fault.
-use Rattle.std.specs.Prelude.{◌≡◌, ℤ, ℕ, ◌<◌, ◌⊎◌, IsTrue, true, List, [], ◌++◌, map, Option, Some, Contains}
+use Rattle.std.specs.Prelude.{◌≡◌, ℤ, ℕ, ◌<◌, ◌≤◌, ◌⊎◌, IsTrue, true, List, [], ◌++◌, map, Option, Some, Contains}
 use Rattle.lido_base.specs.declared.kinds.Kind.{Kind}
 use Rattle.lido_base.specs.declared.kinds.Kind.TheVariants.{Synthesized, Inherited}
 use Rattle.lido_base.specs.declared.value.ValueType.{ValueType}
@@ -66,9 +66,9 @@ module _ (spec : Spec) where
     by_synt : kind ≡ Synthesized → OfClass spec (λ x. (c : Comp) × (b : Name) × InBody spec x c × Contains (uses c) (place.Synt, b) × (name_of b ≡ a) × ¬ IsChain spec a × (at ≡ b.at)) s → SaysKind s a kind at
     by_inh : kind ≡ Inherited → OfClass spec (λ x. (c : Comp) × (b : Name) × InBody spec x c × Contains (uses c) (place.Inh, b) × (name_of b ≡ a) × ¬ IsChain spec a × (at ≡ b.at)) s → SaysKind s a kind at
 
-  -- two kinds of an attribute, two types by ATTR, or two types by SYMBOL items, at the later place
+  -- two kinds of an attribute, two types by ATTR, or two types by SYMBOL items, at the later place; one place that says two kinds is that place
   pub data IsTwofold (at : ℕ) : Type 0 where
-    kinds : (s a first : ℕ) (k l : Kind) → SaysKind s a k first → SaysKind s a l at → (k ≡ l → ⊥) → first < at → IsTwofold at
+    kinds : (s a first : ℕ) (k l : Kind) → SaysKind s a k first → SaysKind s a l at → (k ≡ l → ⊥) → first ≤ at → IsTwofold at
     types_by_attr : (d e : Decl) → Contains spec.attrs d → Contains spec.attrs e → name_of d.attr ≡ name_of e.attr → (d.ty ≡ e.ty → ⊥) → d.attr.at < e.attr.at → at ≡ e.attr.at → IsTwofold at
     types_by_symbol : (s a : ℕ) (d e : Decl) → OfClass spec (λ x. IsDeclared spec x a d) s → OfClass spec (λ x. IsDeclared spec x a e) s → (d.ty ≡ e.ty → ⊥) → d.attr.at < e.attr.at → at ≡ e.attr.at → IsTwofold at
 

@@ -59,6 +59,13 @@ impl Names {
         self.set.get_index_of(&name.0)
     }
 
+    /// The names, in their order.
+    pub fn as_slice(&self) -> &[u32]
+        ensures { result.now ≡ self.now }
+    {
+        self.set.as_slice()
+    }
+
     /// How many names there are.
     pub fn len(&self) -> usize
         ensures { result ≡ length self.now }

@@ -10,7 +10,7 @@ use Rattle.lido_syntax.specs.Completeness.{IsSingle}
 use Rattle.rule_tables.specs.declared.tables.Tables.{Tables}
 use Rattle.rule_tables.specs.TablesOf.{named_symbols, AreTablesOf}
 use Rattle.rule_tables.specs.Needs.{Tables as Numbered}
-use Rattle.symbol_inherit.specs.Aims.{goal_of}
+use Rattle.computation_aims.specs.Aims.{goal_of}
 use Rattle.symbol_inherit.specs.Index.{noted}
 use Rattle.symbol_inherit.specs.Symbols.{HasOwn}
 use Rattle.symbol_inherit.specs.Rules.{HasRule}
@@ -18,7 +18,7 @@ use Rattle.symbol_inherit.specs.Classes.{AreHeirs}
 use Rattle.symbol_inherit.specs.BySymbol as its
 use Rattle.symbol_inherit.specs.BySymbol.{BySymbol, Says}
 use Rattle.symbol_inherit.specs.Forces.{IsResolved, own, found, missing, clash, IsHeld}
-use Rattle.symbol_inherit.specs.declared.aims.Aim.{Aim}
+use Rattle.computation_aims.specs.declared.aims.Aim.{Aim}
 use Rattle.symbol_inherit.specs.declared.notes.Own.{Own}
 use Rattle.symbol_inherit.specs.declared.forced.Held.{Held}
 use Rattle.symbol_inherit.specs.declared.classes.Classes.{Classes}

@@ -5,7 +5,7 @@ use Rattle.std.proofs.lemmas.Bool.{cases_lt, leb-true, leb-false}
 use Rattle.std.proofs.lemmas.Option.{same_Some}
 use Rattle.symbol_inherit.specs.Index.{noted}
 use Rattle.symbol_inherit.specs.Classes.{is_that, IsLeftBy, IsEarliest, IsNone, IsBest, earlier_of}
-use Rattle.symbol_inherit.specs.declared.aims.Aim.{Aim}
+use Rattle.computation_aims.specs.declared.aims.Aim.{Aim}
 use Rattle.symbol_inherit.specs.declared.notes.Own.{Own}
 use Rattle.symbol_inherit.specs.declared.left.Left.{Left}
 use Rattle.symbol_inherit.specs.declared.classes.Classes.{Classes}

@@ -19,43 +19,19 @@ use Rattle.lido_syntax.specs.Sets.{names_of}
 use Rattle.lido_syntax.specs.Computation.{IsSymbolTarget}
 use Rattle.rule_tables.specs.declared.tables.Tables.{Tables}
 use Rattle.rule_tables.specs.TablesOf.{named_symbols, AreTablesOf}
-use Rattle.symbol_inherit.specs.Aims.{goal_by, goal_of, aim_in_symbol}
+use Rattle.computation_aims.specs.Aims.{goal_by, goal_of, aim_in_symbol}
+use Rattle.computation_aims.proofs.SymbolAims.{aim-target, target-aim}
 use Rattle.symbol_inherit.specs.Rows.{row_number}
 use Rattle.symbol_inherit.specs.Notes.{own_of, note, numbered_notes, item_notes, all_notes}
 use Rattle.symbol_inherit.specs.Index.{Holds}
 use Rattle.symbol_inherit.specs.Symbols.{IsOwn, HasOwn}
-use Rattle.symbol_inherit.specs.declared.aims.Way.{Way}
-use Rattle.symbol_inherit.specs.declared.aims.Way.TheVariants as way
-use Rattle.symbol_inherit.specs.declared.aims.Aim.{Aim}
+use Rattle.computation_aims.specs.declared.aims.Way.{Way}
+use Rattle.computation_aims.specs.declared.aims.Way.TheVariants as way
+use Rattle.computation_aims.specs.declared.aims.Aim.{Aim}
 use Rattle.symbol_inherit.specs.declared.notes.Own.{Own}
 use Rattle.symbol_inherit.specs.declared.notes.Note.{Note}
 use Rattle.symbol_inherit.specs.declared.index.Index.{Index}
 use Rattle.symbol_inherit.proofs.RowLemmas.{looked-up, looked-for}
-
--- a target's aim and its goal
-module _ (spec : Spec) where
-  goal-moved : (t : Target) (a b : Aim) → IsSymbolTarget spec t (goal_of a) → Some a ≡ Some b → IsSymbolTarget spec t (goal_of b)
-  goal-moved t a b h e = subst (λ x. IsSymbolTarget spec t (goal_of x)) (same_Some a b e) h
-
-  pub aim-target : (t : Target) (a : Aim) → aim_in_symbol t ≡ Some a → IsSymbolTarget spec t (goal_of a)
-  aim-target (target.Attr place.Synt n) a e = goal-moved (target.Attr place.Synt n) _ a refl e
-  aim-target (target.Attr place.Inh n) a e = goal-moved (target.Attr place.Inh n) _ a refl e
-  aim-target (target.Attr place.This n) a e = goal-moved (target.Attr place.This n) _ a refl e
-  aim-target (target.Attr (place.Named x i) n) a e = absurd (none-some a e)
-  aim-target (target.Attr place.Tail n) a e = absurd (none-some a e)
-  aim-target (target.Start n) a e = goal-moved (target.Start n) _ a refl e
-  aim-target target.Out a e = absurd (none-some a e)
-  aim-target (target.Message s m) a e = absurd (none-some a e)
-
-  by-way : (t : Target) (w : Way) (n : StrId) → IsSymbolTarget spec t (goal_by w n.0) → aim_in_symbol t ≡ Some (record { way = w; name = n })
-  by-way (target.Attr place.Synt a) way.Synthesized n h = λ i. Some (record { way = way.Synthesized; name = record { 0 = h i } })
-  by-way (target.Attr place.Inh a) way.Inherited n h = λ i. Some (record { way = way.Inherited; name = record { 0 = h i } })
-  by-way (target.Attr place.This a) way.Behind n h = λ i. Some (record { way = way.Behind; name = record { 0 = h i } })
-  by-way (target.Start a) way.Start n h = λ i. Some (record { way = way.Start; name = record { 0 = h i } })
-  by-way _ _ n h = absurd h
-
-  pub target-aim : (t : Target) (a : Aim) → IsSymbolTarget spec t (goal_of a) → aim_in_symbol t ≡ Some a
-  target-aim t a h = by-way t a.way a.name h
 
 pub some-mapped : {X Y : Type 0} (f : X → Y) (o : Option X) (y : Y) → option_map f o ≡ Some y → (x : X) × (o ≡ Some x) × (f x ≡ y)
 some-mapped f None y e = absurd (none-some y e)

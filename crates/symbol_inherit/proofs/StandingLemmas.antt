@@ -18,7 +18,7 @@ use Rattle.rule_tables.specs.declared.tables.Tables.{Tables}
 use Rattle.rule_tables.specs.TablesOf.{named_symbols, AreTablesOf}
 use Rattle.rule_tables.specs.Needs.{Tables as Numbered}
 use Rattle.rule_tables.specs.InForceFaults.{IsLeftAt}
-use Rattle.symbol_inherit.specs.Aims.{goal_of}
+use Rattle.computation_aims.specs.Aims.{goal_of}
 use Rattle.symbol_inherit.specs.Notes.{own_of}
 use Rattle.symbol_inherit.specs.Index.{noted}
 use Rattle.symbol_inherit.specs.Symbols.{HasOwn}
@@ -26,7 +26,7 @@ use Rattle.symbol_inherit.specs.Classes.{inherits_by, AreHeirs, is_candidate, Is
 use Rattle.symbol_inherit.specs.Standings.{IsFound, own, missing, one, two}
 use Rattle.symbol_inherit.specs.BySymbol as by_symbol
 use Rattle.symbol_inherit.specs.BySymbol.{BySymbol, Says}
-use Rattle.symbol_inherit.specs.declared.aims.Aim.{Aim}
+use Rattle.computation_aims.specs.declared.aims.Aim.{Aim}
 use Rattle.symbol_inherit.specs.declared.notes.Own.{Own}
 use Rattle.symbol_inherit.specs.declared.left.Left.{Left}
 use Rattle.symbol_inherit.specs.declared.classes.Classes.{Classes}

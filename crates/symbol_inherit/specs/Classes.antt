@@ -9,7 +9,7 @@ use Rattle.rule_tables.specs.declared.tables.SymbolRow.{SymbolRow}
 use Rattle.rule_tables.specs.declared.tables.Tables.{Tables}
 use Rattle.rule_tables.specs.TablesOf.{named_symbols}
 use Rattle.symbol_inherit.specs.Index.{noted}
-use Rattle.symbol_inherit.specs.declared.aims.Aim.{Aim}
+use Rattle.computation_aims.specs.declared.aims.Aim.{Aim}
 use Rattle.symbol_inherit.specs.declared.classes.Classes.{Classes}
 use Rattle.symbol_inherit.specs.declared.index.Index.{Index}
 use Rattle.symbol_inherit.specs.declared.notes.Own.{Own}

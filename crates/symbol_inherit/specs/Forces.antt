@@ -6,7 +6,7 @@ use Rattle.lido_syntax.specs.declared.spec.RuleItem.{RuleItem}
 use Rattle.lido_syntax.specs.Computation.{Goal, Holder, by_rule, by_symbol, InForce, HasComputation}
 use Rattle.symbol_inherit.specs.Index.{noted}
 use Rattle.symbol_inherit.specs.Standings.{IsFound}
-use Rattle.symbol_inherit.specs.declared.aims.Aim.{Aim}
+use Rattle.computation_aims.specs.declared.aims.Aim.{Aim}
 use Rattle.symbol_inherit.specs.declared.notes.Own.{Own}
 use Rattle.symbol_inherit.specs.declared.classes.Classes.{Classes}
 use Rattle.symbol_inherit.specs.declared.index.Index.{Index}

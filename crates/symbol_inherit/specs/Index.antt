@@ -1,23 +1,11 @@
 -- The index of computations by what they give values to.
-use Rattle.std.specs.Prelude.{◌≡◌, ℕ, Bool, ◌&&◌, nat_eq, List, Option, Some, Contains}
+use Rattle.std.specs.Prelude.{◌≡◌, ℕ, List, Option, Some, Contains}
 use Rattle.std.specs.HashMap as table
-use Rattle.symbol_inherit.specs.Aims.{number_of}
-use Rattle.symbol_inherit.specs.declared.aims.Aim.{Aim}
+use Rattle.computation_aims.specs.Keys.{key, is_same_key}
+use Rattle.computation_aims.specs.declared.aims.Aim.{Aim}
 use Rattle.symbol_inherit.specs.declared.notes.Own.{Own}
 use Rattle.symbol_inherit.specs.declared.notes.Note.{Note}
 use Rattle.symbol_inherit.specs.declared.index.Index.{Index}
-
-abbrev pub Key : Type 0
-Key = ℕ × ℕ × ℕ
-
-abbrev pub key : ℕ → Aim → Key
-key place aim = (place, number_of aim.way, aim.name.0)
-
-abbrev pub is_same_key : Key → Key → Bool
-is_same_key p q = nat_eq p.0 q.0 && nat_eq p.1 q.1 && nat_eq p.2 q.2
-
-abbrev pub is_same_aim : ℕ → Aim → ℕ → Aim → Bool
-is_same_aim place aim other_place other = is_same_key (key place aim) (key other_place other)
 
 -- what the index has for an aim
 unfoldable pub noted : Index → ℕ → Aim → Option Own

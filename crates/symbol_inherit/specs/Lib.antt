@@ -1,4 +1,3 @@
-pub mod Aims
 pub mod Rows
 pub mod Notes
 pub mod Index

@@ -7,8 +7,8 @@ use Rattle.lido_syntax.specs.declared.spec.SymbolItem.{SymbolItem}
 use Rattle.lido_syntax.specs.Production.{name_of}
 use Rattle.rule_tables.specs.declared.tables.SymbolRow.{SymbolRow}
 use Rattle.symbol_inherit.specs.Rows.{row_number}
-use Rattle.symbol_inherit.specs.Aims.{aim_in_symbol, aim_in_rule}
-use Rattle.symbol_inherit.specs.declared.aims.Aim.{Aim}
+use Rattle.computation_aims.specs.Aims.{aim_in_symbol, aim_in_rule}
+use Rattle.computation_aims.specs.declared.aims.Aim.{Aim}
 use Rattle.symbol_inherit.specs.declared.notes.Own.{Own}
 use Rattle.symbol_inherit.specs.declared.notes.Note.{Note}
 

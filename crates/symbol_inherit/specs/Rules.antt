@@ -1,21 +1,15 @@
 -- What a rule computes itself, as an index has it.
-use Rattle.std.specs.Prelude.{◌≡◌, ℕ, ◌↔◌, IsTrue, List, Some}
-use Rattle.lido_base.specs.Tree.{contains}
+use Rattle.std.specs.Prelude.{◌≡◌, ℕ, Some}
 use Rattle.lido_syntax.specs.declared.spec.Spec.{Spec}
 use Rattle.lido_syntax.specs.declared.spec.Comp.{Comp}
 use Rattle.lido_syntax.specs.declared.spec.RuleItem.{RuleItem}
-use Rattle.lido_syntax.specs.Symbols.{IsChain}
 use Rattle.lido_syntax.specs.Computation.{InRule}
-use Rattle.symbol_inherit.specs.Aims.{goal_of}
+use Rattle.computation_aims.specs.Aims.{goal_of}
 use Rattle.symbol_inherit.specs.Notes.{own_of}
 use Rattle.symbol_inherit.specs.Index.{noted}
-use Rattle.symbol_inherit.specs.declared.aims.Aim.{Aim}
+use Rattle.computation_aims.specs.declared.aims.Aim.{Aim}
 use Rattle.symbol_inherit.specs.declared.notes.Own.{Own}
 use Rattle.symbol_inherit.specs.declared.index.Index.{Index}
-
--- these are the chains that are declared
-abbrev pub AreChains : Spec → List ℕ → Type 0
-AreChains spec chains = (c : ℕ) → IsTrue (contains c chains) ↔ IsChain spec c
 
 -- the index has the computation of each attribute and chain that the rule computes, and no other
 pub record HasRule (spec : Spec) (r : RuleItem) (index : Index) : Type 0 where

@@ -2,7 +2,7 @@
 use Rattle.std.specs.Prelude.{◌≡◌, ℕ, Some, None}
 use Rattle.symbol_inherit.specs.Index.{noted}
 use Rattle.symbol_inherit.specs.Classes.{IsEarliest, IsNone}
-use Rattle.symbol_inherit.specs.declared.aims.Aim.{Aim}
+use Rattle.computation_aims.specs.declared.aims.Aim.{Aim}
 use Rattle.symbol_inherit.specs.declared.notes.Own.{Own}
 use Rattle.symbol_inherit.specs.declared.left.Left.{Left}
 use Rattle.symbol_inherit.specs.declared.classes.Classes.{Classes}

@@ -4,10 +4,10 @@ use Rattle.lido_syntax.specs.declared.spec.Comp.{Comp}
 use Rattle.lido_syntax.specs.Computation.{InSymbol}
 use Rattle.rule_tables.specs.declared.tables.Tables.{Tables}
 use Rattle.rule_tables.specs.TablesOf.{named_symbols}
-use Rattle.symbol_inherit.specs.Aims.{goal_of}
+use Rattle.computation_aims.specs.Aims.{goal_of}
 use Rattle.symbol_inherit.specs.Notes.{own_of}
 use Rattle.symbol_inherit.specs.Index.{noted}
-use Rattle.symbol_inherit.specs.declared.aims.Aim.{Aim}
+use Rattle.computation_aims.specs.declared.aims.Aim.{Aim}
 use Rattle.symbol_inherit.specs.declared.notes.Own.{Own}
 use Rattle.symbol_inherit.specs.declared.index.Index.{Index}
 

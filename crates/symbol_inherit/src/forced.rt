@@ -2,10 +2,10 @@
 ghost use Rattle.std.specs.Prelude.{◌≡◌};
 ghost use Rattle.symbol_inherit.specs.Forces.{IsResolved};
 
-use crate::aims::Aim;
 use crate::classes::Classes;
 use crate::index::Index;
 use crate::standing::{Standing, of_symbol};
+use computation_aims::Aim;
 
 /// A computation in force.
 #[derive(Clone, Copy)]

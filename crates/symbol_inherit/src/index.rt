@@ -1,10 +1,11 @@
 //! Computations by what they give values to.
 ghost use Rattle.std.specs.Prelude.{◌≡◌, ℕ, None, Some, OnOk, IfOk, if◌then◌else◌};
-ghost use Rattle.symbol_inherit.specs.declared.aims.Aim.{Aim as AnyAim};
-ghost use Rattle.symbol_inherit.specs.Index.{noted, is_same_aim, Holds};
+ghost use Rattle.computation_aims.specs.declared.aims.Aim.{Aim as AnyAim};
+ghost use Rattle.computation_aims.specs.Keys.{is_same_aim};
+ghost use Rattle.symbol_inherit.specs.Index.{noted, Holds};
 
-use crate::aims::Aim;
 use crate::notes::{Note, Own};
+use computation_aims::Aim;
 use lido_base::Memory;
 use std::alloc::Global;
 use std::collections::HashMap;

@@ -3,10 +3,10 @@ ghost use Rattle.std.specs.Prelude.{◌≡◌, ◌<◌, ◌+◌, ◌↔◌, IsTr
 ghost use Rattle.symbol_inherit.specs.Index.{noted};
 ghost use Rattle.symbol_inherit.specs.Classes.{inherits_by, is_that, is_candidate, IsDropped, IsLeftBy, IsBest, earlier_of};
 
-use crate::aims::Aim;
 use crate::classes::Classes;
 use crate::index::Index;
 use crate::notes::Own;
+use computation_aims::Aim;
 
 /// A class that is left, and its computation.
 #[derive(Clone, Copy)]

@@ -2,7 +2,6 @@
 //! inherits from its classes.
 #![tactic(auto)]
 
-mod aims;
 mod classes;
 mod cycle;
 mod forced;

@@ -2,8 +2,8 @@
 ghost use Rattle.std.specs.Prelude.{◌≡◌, ◌++◌, ◌≤◌, IfOk, OnOk, length};
 ghost use Rattle.symbol_inherit.specs.Notes.{body_notes, numbered_notes, item_notes, all_notes};
 
-use crate::aims::{Aim, symbol_aim};
 use crate::numbers::symbol_number;
+use computation_aims::{Aim, symbol_aim};
 use lido_base::Memory;
 use lido_syntax::{Comp, SymbolItem};
 use rule_tables::SymbolRow;

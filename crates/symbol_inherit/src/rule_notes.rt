@@ -4,8 +4,8 @@ ghost use Rattle.lido_symbols.specs.Occurrences.{IsProductionOf};
 ghost use Rattle.lido_syntax.specs.declared.spec.RuleItem.{RuleItem as Rule};
 ghost use Rattle.symbol_inherit.specs.Notes.{rule_note, rule_notes as notes_of_rule};
 
-use crate::aims::rule_aim;
 use crate::notes::{Note, Own};
+use computation_aims::rule_aim;
 use lido_base::Memory;
 use lido_symbols::{Names, Production};
 use lido_syntax::{Comp, RuleItem};

@@ -2,10 +2,10 @@
 ghost use Rattle.std.specs.Prelude.{◌≡◌};
 ghost use Rattle.symbol_inherit.specs.Standings.{IsFound};
 
-use crate::aims::Aim;
 use crate::classes::Classes;
 use crate::index::Index;
 use crate::left::first_left;
+use computation_aims::Aim;
 
 /// What a symbol and its classes have for an aim.
 #[derive(Clone, Copy)]

@@ -1,7 +1,7 @@
 use Rattle.std.proofs.Common.{◌∙◌, ap, sym, option_map}
 use Rattle.lido_syntax.specs.declared.spec.Comp.{Comp}
 use Rattle.symbol_inherit.proofs.Lists.{pushed-some, pushed-none}
-use Rattle.symbol_inherit.specs.Aims.{aim_in_symbol}
+use Rattle.computation_aims.specs.Aims.{aim_in_symbol}
 use Rattle.symbol_inherit.specs.Notes.{note}
 use Rattle.symbol_inherit.proofs.notes.note_body.Goals as goal
 use Rattle.symbol_inherit.proofs.notes.note_body.Goals.{in-Some+in_ok-push, in_default}

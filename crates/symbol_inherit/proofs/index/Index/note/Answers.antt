@@ -1,4 +1,5 @@
-use Rattle.symbol_inherit.specs.Index.{noted, key}
+use Rattle.computation_aims.specs.Keys.{key}
+use Rattle.symbol_inherit.specs.Index.{noted}
 use Rattle.symbol_inherit.proofs.index.Index.note.Goals as goal
 
 pub returns : goal.returns

@@ -1,16 +1,18 @@
 -- What computations give values to, as the goals of the specification.
-use Rattle.std.specs.Prelude.{ℕ, zero, suc, Bool, if◌then◌else◌, List, Option, Some, None}
+use Rattle.std.specs.Prelude.{ℕ, zero, suc, ◌↔◌, Bool, IsTrue, if◌then◌else◌, List, Option, Some, None}
 use Rattle.lido_base.specs.Tree.{contains}
 use Rattle.lido_syntax.specs.declared.spec.Name.{Name}
 use Rattle.lido_syntax.specs.declared.spec.Target.{Target}
 use Rattle.lido_syntax.specs.declared.spec.Target.TheVariants as target
 use Rattle.lido_syntax.specs.declared.spec.Place.TheVariants as place
 use Rattle.lido_syntax.specs.declared.spec.RuleItem.{RuleItem}
+use Rattle.lido_syntax.specs.declared.spec.Spec.{Spec}
 use Rattle.lido_syntax.specs.Production.{name_of, occurrence}
+use Rattle.lido_syntax.specs.Symbols.{IsChain}
 use Rattle.lido_syntax.specs.Computation as written
-use Rattle.symbol_inherit.specs.declared.aims.Way.{Way}
-use Rattle.symbol_inherit.specs.declared.aims.Way.TheVariants as way
-use Rattle.symbol_inherit.specs.declared.aims.Aim.{Aim}
+use Rattle.computation_aims.specs.declared.aims.Way.{Way}
+use Rattle.computation_aims.specs.declared.aims.Way.TheVariants as way
+use Rattle.computation_aims.specs.declared.aims.Aim.{Aim}
 
 -- which of the ways it is
 abbrev pub number_of : Way → ℕ
@@ -51,3 +53,7 @@ abbrev pub aim_in_rule : List ℕ → RuleItem → Target → Option (ℕ × Aim
 aim_in_rule chains r (target.Attr (place.Named x i) a) = aim_at (contains (name_of a) chains) (occurrence r x i) a
 aim_in_rule chains r (target.Start a) = Some (0, record { way = way.Start; name = a.id })
 aim_in_rule chains r _ = None
+
+-- these are the chains that are declared
+abbrev pub AreChains : Spec → List ℕ → Type 0
+AreChains spec chains = (c : ℕ) → IsTrue (contains c chains) ↔ IsChain spec c

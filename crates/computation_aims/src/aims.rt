@@ -1,6 +1,6 @@
 //! What computations give values to.
 ghost use Rattle.std.specs.Prelude.{◌≡◌};
-ghost use Rattle.symbol_inherit.specs.Aims.{aim_in_symbol, aim_at, aim_in_rule, number_of};
+ghost use Rattle.computation_aims.specs.Aims.{aim_in_symbol, aim_at, aim_in_rule, number_of};
 ghost use Rattle.lido_symbols.specs.Occurrences.{IsProductionOf};
 ghost use Rattle.lido_syntax.specs.declared.spec.RuleItem.{RuleItem as Rule};
 

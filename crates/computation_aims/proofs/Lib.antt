@@ -1,0 +1,3 @@
+pub mod SymbolAims
+pub mod RuleAims
+pub mod KeyLemmas

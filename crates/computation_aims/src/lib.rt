@@ -1,0 +1,6 @@
+//! What the computations of a specification give values to: attributes and chains, seen from the symbol at which they stand.
+#![tactic(auto)]
+
+mod aims;
+
+pub use aims::{Aim, Way, rule_aim, symbol_aim};

@@ -1,7 +1,9 @@
 pub mod KindClash
 pub mod Least
 pub mod Names
+pub mod Firsts
 pub mod Sets
 pub mod Symbols
+pub mod Types
 pub mod Comps
 pub mod Sides

@@ -2,17 +2,23 @@
 #![tactic(auto)]
 
 mod bodies;
+mod chains;
 mod comps;
+mod firsts;
 mod least;
 mod names;
 mod sets;
 mod sides;
 mod symbols;
+mod types;
 
 pub use bodies::{clash_in_rules, clash_in_symbols};
+pub use chains::chain_again;
 pub use comps::{body_clash, comp_clash};
+pub use firsts::{Firsts, firsts_of, if_behind, least_behind};
 pub use least::earlier;
 pub use names::Names;
 pub use sets::NameSets;
 pub use sides::rule_comp_clash;
 pub use symbols::{class_in_productions, inherits_no_class, terminal_in_lists};
+pub use types::{faulty_term, second_type};

@@ -1,5 +1,5 @@
 -- The tables of a specification: its symbols and cells, each with its attributes, its plain rules and its shapes.
-use Rattle.std.specs.Prelude.{◌≡◌, ℕ, ◌+◌, ◌<◌, ◌↔◌, ◌⊎◌, Bool, true, false, nat_eq, List, [], ◌∷◌, ◌++◌, map, filter_map, length, Option, Some, None, slice_get, codes, All, AllPairs, Contains}
+use Rattle.std.specs.Prelude.{◌≡◌, ℕ, ◌+◌, ◌⊎◌, true, nat_eq, List, [], ◌∷◌, ◌++◌, map, filter_map, length, Option, Some, None, slice_get, codes, All, AllPairs, Contains}
 use Rattle.std.specs.List.{AllZip}
 use Rattle.lido_base.specs.declared.ids.SymId.{SymId}
 use Rattle.lido_base.specs.declared.value.ValueType.{ValueType}
@@ -11,12 +11,11 @@ use Rattle.lido_syntax.specs.Production.{name_of}
 use Rattle.lido_syntax.specs.Functions.{text_of}
 use Rattle.lido_syntax.specs.Symbols.{IsNonterminal, IsTerminal, IsRoot}
 use Rattle.lido_syntax.specs.Sets.{inherits_directly}
-use Rattle.lido_syntax.specs.Attributes.{Has, HasKind, HasType}
-use Rattle.flat_grammar.specs.declared.flat.FlatAttr.{FlatAttr}
 use Rattle.flat_grammar.specs.declared.flat.FlatRule.{FlatRule}
-use Rattle.lido_symbols.specs.Numbers.{AreNumbered, place_in, enumerated}
+use Rattle.lido_symbols.specs.Numbers.{AreNumbered, enumerated}
 use Rattle.lido_symbols.specs.Classes.{IsClass}
-use Rattle.lido_symbols.specs.Uses.{symbol_uses, attribute_uses}
+use Rattle.lido_symbols.specs.Uses.{symbol_uses}
+use Rattle.symbol_attributes.specs.Written.{AreAttributesOf}
 use Rattle.rule_tables.specs.declared.tables.Tables.{Tables}
 use Rattle.rule_tables.specs.declared.tables.SymbolRow.{SymbolRow}
 use Rattle.rule_tables.specs.declared.tables.SymbolClass.{SymbolClass}
@@ -39,21 +38,6 @@ module _ (spec : Spec) (env : Environment) (symbols : List ℕ) where
   IsSymbolClass s class.Class = IsClass spec s
   IsSymbolClass s class.Cell = ⊥
 
-  -- a written attribute of the symbol
-  pub record IsWrittenAttribute (s : ℕ) (attr : FlatAttr) : Type 0 where
-    pub of_symbol : Has spec s attr.name.0
-    pub kind : HasKind spec s attr.name.0 attr.kind
-    pub ty : HasType spec s attr.name.0 attr.ty
-    pub written : attr.written ≡ true
-    pub message : attr.message ≡ false
-
-  -- Attributes are numbered by the places where their names first stand in the text.
-  pub record AreAttributesOf (s : ℕ) (attrs : List FlatAttr) : Type 0 where
-    pub each : All (IsWrittenAttribute s) attrs
-    pub all : (a : ℕ) → Has spec s a → (x : FlatAttr) × Contains attrs x × (x.name.0 ≡ a)
-    pub by_place : (attributes : List ℕ) → AreNumbered nat_eq (attribute_uses spec) attributes
-        → AllPairs (λ (x y : FlatAttr). place_in (nat_eq x.name.0) attributes < place_in (nat_eq y.name.0) attributes) attrs
-
   -- the classes that items of the symbol name behind INHERITS, each once, by their numbers
   pub record AreClassesOf (s : ℕ) (classes : List SymId) : Type 0 where
     pub each : (class : SymId) → Contains classes class → (c : ℕ) × (slice_get symbols class.0 ≡ Some c) × (inherits_directly spec s c ≡ true)
@@ -63,7 +47,7 @@ module _ (spec : Spec) (env : Environment) (symbols : List ℕ) where
   pub record IsRowOf (s : ℕ) (row : SymbolRow) : Type 0 where
     pub name : row.name.0 ≡ s
     pub class : IsSymbolClass s row.class
-    pub attrs : AreAttributesOf s row.attrs
+    pub attrs : AreAttributesOf spec s row.attrs
     pub classes : AreClassesOf s row.classes
 
   -- the row of a list's cell

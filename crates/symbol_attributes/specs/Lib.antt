@@ -1,3 +1,4 @@
 pub mod Inheritance
 pub mod Named
 pub mod Owned
+pub mod Written

@@ -2,5 +2,7 @@
 #![tactic(auto)]
 
 mod aims;
+mod chains;
 
 pub use aims::{Aim, Way, rule_aim, symbol_aim};
+pub use chains::chain_names;

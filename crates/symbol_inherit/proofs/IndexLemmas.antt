@@ -1,18 +1,15 @@
 -- The index grows by one computation each time.
 use Rattle.std.specs.List.{slice_index_or}
-use Rattle.std.specs.Prelude.{Bool, true, false, cond, ◌&&◌, nat_eq, IsTrue, Contains}
-use Rattle.std.proofs.Common.{◌≡◌, ℕ, zero, suc, ◌+◌, ◌<◌, length, take, List, [], ◌∷◌, ◌++◌, Some, None, refl, sym, ap, ◌∙◌, subst, inl, inr, eqb-true, eq-eqb}
+use Rattle.std.specs.Prelude.{Bool, true, false, cond, Contains}
+use Rattle.std.proofs.Common.{◌≡◌, ℕ, ◌+◌, ◌<◌, length, take, List, [], ◌∷◌, ◌++◌, Some, None, refl, sym, ap, ◌∙◌, subst, inl, inr}
 use Rattle.std.proofs.lemmas.List.{take_more}
 use Rattle.std.proofs.lemmas.List.Elements.{Contains-push_cases, Contains-push, Contains-append_left}
 use Rattle.std.proofs.lemmas.Option.{none-some, same_Some}
 use Rattle.lido_base.proofs.Lists.{contains-nil}
-use Rattle.computation_aims.specs.declared.aims.Way.{Way}
-use Rattle.computation_aims.specs.declared.aims.Way.TheVariants as way
 use Rattle.computation_aims.specs.declared.aims.Aim.{Aim}
 use Rattle.symbol_inherit.specs.declared.notes.Own.{Own}
 use Rattle.symbol_inherit.specs.declared.notes.Note.{Note}
 use Rattle.symbol_inherit.specs.declared.index.Index.{Index}
-use Rattle.computation_aims.specs.Aims.{number_of}
 use Rattle.computation_aims.specs.Keys.{is_same_aim}
 use Rattle.computation_aims.proofs.KeyLemmas.{same-aim, aim-same}
 use Rattle.symbol_inherit.specs.Index.{noted, Holds}

@@ -6,27 +6,20 @@ use Rattle.std.proofs.lemmas.Option.{none-some, same_Some}
 use Rattle.lido_base.specs.Environment.{Environment}
 use Rattle.lido_base.proofs.Lists.{contains-nil, contains-cons, contains-here, contains-later, contains-flat, flat-contains, map-contains, contains-map}
 use Rattle.lido_base.proofs.TreeLemmas.{contains-test, test-contains}
-use Rattle.lido_base.specs.declared.ids.StrId.{StrId}
-use Rattle.lido_syntax.specs.declared.spec.Spec.{Spec}
 use Rattle.lido_syntax.specs.declared.spec.Name.{Name}
 use Rattle.lido_syntax.specs.declared.spec.Comp.{Comp}
 use Rattle.lido_syntax.specs.declared.spec.SymbolItem.{SymbolItem}
-use Rattle.lido_syntax.specs.declared.spec.Target.{Target}
-use Rattle.lido_syntax.specs.declared.spec.Target.TheVariants as target
-use Rattle.lido_syntax.specs.declared.spec.Place.TheVariants as place
 use Rattle.lido_syntax.specs.Production.{name_of}
 use Rattle.lido_syntax.specs.Sets.{names_of}
 use Rattle.lido_syntax.specs.Computation.{IsSymbolTarget}
 use Rattle.rule_tables.specs.declared.tables.Tables.{Tables}
 use Rattle.rule_tables.specs.TablesOf.{named_symbols, AreTablesOf}
-use Rattle.computation_aims.specs.Aims.{goal_by, goal_of, aim_in_symbol}
+use Rattle.computation_aims.specs.Aims.{goal_of, aim_in_symbol}
 use Rattle.computation_aims.proofs.SymbolAims.{aim-target, target-aim}
 use Rattle.symbol_inherit.specs.Rows.{row_number}
 use Rattle.symbol_inherit.specs.Notes.{own_of, note, numbered_notes, item_notes, all_notes}
 use Rattle.symbol_inherit.specs.Index.{Holds}
 use Rattle.symbol_inherit.specs.Symbols.{IsOwn, HasOwn}
-use Rattle.computation_aims.specs.declared.aims.Way.{Way}
-use Rattle.computation_aims.specs.declared.aims.Way.TheVariants as way
 use Rattle.computation_aims.specs.declared.aims.Aim.{Aim}
 use Rattle.symbol_inherit.specs.declared.notes.Own.{Own}
 use Rattle.symbol_inherit.specs.declared.notes.Note.{Note}

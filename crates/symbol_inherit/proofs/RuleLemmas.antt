@@ -1,27 +1,16 @@
 -- The index of a rule has what its computations give values to.
-use Rattle.std.specs.Prelude.{Bool, true, false, option_map}
-use Rattle.std.proofs.Common.{◌≡◌, ℕ, ℤ, zero, suc, List, Option, Some, None, refl, sym, ap, ◌∙◌, subst}
-use Rattle.std.proofs.lemmas.Option.{none-some, same_Some}
-use Rattle.lido_base.specs.Tree.{contains}
-use Rattle.lido_base.specs.declared.ids.StrId.{StrId}
+use Rattle.std.specs.Prelude.{option_map}
+use Rattle.std.proofs.Common.{◌≡◌, ℕ, List, Some, ap, ◌∙◌}
 use Rattle.lido_syntax.specs.declared.spec.Spec.{Spec}
-use Rattle.lido_syntax.specs.declared.spec.Name.{Name}
 use Rattle.lido_syntax.specs.declared.spec.Comp.{Comp}
 use Rattle.lido_syntax.specs.declared.spec.RuleItem.{RuleItem}
-use Rattle.lido_syntax.specs.declared.spec.Target.{Target}
-use Rattle.lido_syntax.specs.declared.spec.Target.TheVariants as target
-use Rattle.lido_syntax.specs.declared.spec.Place.TheVariants as place
-use Rattle.lido_syntax.specs.Production.{name_of, occurrence}
-use Rattle.lido_syntax.specs.Symbols.{IsChain}
-use Rattle.lido_syntax.specs.Computation.{InRule, IsRuleTarget}
-use Rattle.computation_aims.specs.Aims.{goal_by, goal_of, aim_at, aim_in_rule}
+use Rattle.lido_syntax.specs.Computation.{InRule}
+use Rattle.computation_aims.specs.Aims.{goal_of, aim_in_rule}
 use Rattle.symbol_inherit.specs.Notes.{own_of, placed, rule_note, rule_notes}
 use Rattle.symbol_inherit.specs.Index.{noted, Holds}
 use Rattle.computation_aims.specs.Aims.{AreChains}
 use Rattle.computation_aims.proofs.RuleAims.{aim-target, target-aim}
 use Rattle.symbol_inherit.specs.Rules.{HasRule}
-use Rattle.computation_aims.specs.declared.aims.Way.{Way}
-use Rattle.computation_aims.specs.declared.aims.Way.TheVariants as way
 use Rattle.computation_aims.specs.declared.aims.Aim.{Aim}
 use Rattle.symbol_inherit.specs.declared.notes.Own.{Own}
 use Rattle.symbol_inherit.specs.declared.notes.Note.{Note}

@@ -1,7 +1,9 @@
 pub mod ChainsLemmas
+pub mod ClashLemmas
 pub mod FirstsLemmas
 pub mod LeastLemmas
 pub mod NamesLemmas
 pub mod SetsLemmas
 pub mod SidesLemmas
 pub mod TypesLemmas
+pub mod UsesLemmas

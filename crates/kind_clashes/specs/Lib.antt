@@ -2,8 +2,10 @@ pub mod KindClash
 pub mod Least
 pub mod Names
 pub mod Firsts
+pub mod Items
 pub mod Sets
 pub mod Symbols
 pub mod Types
 pub mod Comps
 pub mod Sides
+pub mod Plain

@@ -37,7 +37,8 @@ fn terminal_name(sets: &NameSets, name: Name) -> Option<u32>
     }
 }
 
-fn least_terminal_name(sets: &NameSets, names: &[Name]) -> Option<u32>
+/// The least place of a terminal among the names.
+pub fn least_terminal_name(sets: &NameSets, names: &[Name]) -> Option<u32>
     ensures { IsFirst (Among (IsTerminalName sets.now) names.now) result }
 {
     let mut least = None;

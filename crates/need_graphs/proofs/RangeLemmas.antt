@@ -18,7 +18,7 @@ use Rattle.rule_tables.specs.PlainRules.{PlainRule, Link, End, lists, number, ce
 use Rattle.rule_tables.specs.TablesOf.{named_symbols, AreTablesOf}
 use Rattle.rule_tables.proofs.SlotLemmas.{number-at_place}
 
-filter-part : {X : Type 0} (p : X → Bool) (xs : List X) (x : X) → Contains (filter p xs) x → Contains xs x
+pub filter-part : {X : Type 0} (p : X → Bool) (xs : List X) (x : X) → Contains (filter p xs) x → Contains xs x
 filter-part p [] x m = m
 filter-part {X} p (y ∷ xs) x m = by (p y) m (filter-part p xs x)
   where
@@ -26,7 +26,7 @@ filter-part {X} p (y ∷ xs) x m = by (p y) m (filter-part p xs x)
     by true m later = elim (contains-cons y x (filter p xs) m) [ inl h ↦ subst (λ z. Contains (y ∷ xs) z) h (contains-here y xs) | inr k ↦ contains-later y x xs (later k) ]
     by false m later = contains-later y x xs (later m)
 
-filter-kept : {X : Type 0} (p : X → Bool) (xs : List X) (x : X) → Contains xs x → p x ≡ true → Contains (filter p xs) x
+pub filter-kept : {X : Type 0} (p : X → Bool) (xs : List X) (x : X) → Contains xs x → p x ≡ true → Contains (filter p xs) x
 filter-kept p [] x m e = m
 filter-kept {X} p (y ∷ xs) x m e = by (p y) refl (contains-cons y x xs m) (λ k. filter-kept p xs x k e)
   where

@@ -29,6 +29,7 @@ use Rattle.rule_tables.specs.TablesOf.{named_symbols}
 use Rattle.rule_tables.proofs.NeedsLemmas.{any-found}
 use Rattle.rule_tables.proofs.SlotLemmas.{zip-at}
 use Rattle.need_graphs.specs.Starts.{is_called, is_start, starts}
+use Rattle.need_graphs.proofs.ListLemmas.{same-bool}
 use Rattle.need_graphs.proofs.EdgeLemmas.{found-any, zip-right, IsOpenEdge, edge-open, open-edge}
 
 -- an item that passes is found
@@ -47,7 +48,7 @@ at-zip (a ∷ xs) (b ∷ ys) zero x y e f = let g = same_Some _ _ e in let h = s
 at-zip (a ∷ xs) (b ∷ ys) (suc i) x y e f = at-zip xs ys i x y e f
 
 -- a goal of the tables is the start of a chain as the goal that it stands for
-called : (t : Tables) (c i a : ℕ) → IsChainAt t i a → is_called t.spec.chains c i ≡ nat_eq a c
+pub called : (t : Tables) (c i a : ℕ) → IsChainAt t i a → is_called t.spec.chains c i ≡ nat_eq a c
 called t c i a at = ap (λ (o : Option Typed1). is_same_option (option_map (λ (d : Typed1). name_of d.name) o) (Some c)) at.1 ∙ ap (λ n. nat_eq n c) at.2
 
 same-start : (t : Tables) (c x : ℕ) (g : Goal) (w : written.Goal) → IsGoalAs t x g w → is_start t.spec.chains c g ≡ is_same_goal w (written.Start c)
@@ -79,13 +80,7 @@ module _ (t : Tables) (c : ℕ) (p : PlainRule) (es : List Entry) (fs : List For
       found-any (starts t.spec.chains c) es e.0 e.1 (same-test e.0 f.0 e.2 ∙ f.2)
 
   pub starts-same : list_any (starts t.spec.chains c) es ≡ is_some (force_for fs 0 (written.Start c))
-  starts-same = one (list_any (starts t.spec.chains c) es) (list_any test fs) start-to start-from ∙ sym (find-any test fs)
-    where
-      one : (a b : Bool) → (IsTrue a → IsTrue b) → (IsTrue b → IsTrue a) → a ≡ b
-      one true true f g = refl
-      one false false f g = refl
-      one true false f g = absurd (let h : IsTrue false = f refl in cc)
-      one false true f g = absurd (let h : IsTrue false = g refl in cc)
+  starts-same = same-bool (list_any (starts t.spec.chains c) es) (list_any test fs) start-to start-from ∙ sym (find-any test fs)
 
 module _ (env : Environment) (forced : Forced) (are : AreForcedOf env forced) (c : ℕ) where
   abbrev tables : Tables

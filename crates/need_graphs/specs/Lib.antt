@@ -1,2 +1,3 @@
 pub mod Starts
 pub mod Reads
+pub mod Users

@@ -14,7 +14,7 @@ use rule_tables::{Force, Forced, Goal};
 use std::alloc::Global;
 
 /// Whether the chain that is declared at the place has this name.
-fn is_declared(chains: &[Typed1], chain: StrId, place: usize) -> bool
+pub fn is_declared(chains: &[Typed1], chain: StrId, place: usize) -> bool
     ensures { result ≡ is_called chains.now chain.0 place }
 {
     match chains.get(place) {
@@ -41,7 +41,7 @@ fn starts_chain(chains: &[Typed1], chain: StrId, force: &Force) -> bool
 }
 
 /// Whether the chain starts at the left side by one of the computations.
-fn has_start(chains: &[Typed1], chain: StrId, forces: &[Force]) -> bool
+pub fn has_start(chains: &[Typed1], chain: StrId, forces: &[Force]) -> bool
     ensures { result ≡ list_any (starts chains.now chain.0) forces.now }
 {
     forces

@@ -5,11 +5,14 @@
 mod chains;
 mod children;
 mod needs;
+mod numbers;
 mod paths;
+mod readers;
 mod reads;
+mod users;
 
 pub use chains::{chain_graph, started};
 pub use children::child_graph;
 pub use needs::chain_needs;
 pub use paths::chain_path;
-pub use reads::reads_chain;
+pub use users::chain_users;

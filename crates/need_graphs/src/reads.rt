@@ -1,10 +1,7 @@
 //! The computations that read a chain.
-ghost use Rattle.std.specs.Prelude.{◌≡◌, List as Sequence, IfOk};
+ghost use Rattle.std.specs.Prelude.{◌≡◌, IfOk};
 ghost use Rattle.std.specs.List.{list_any};
 ghost use Rattle.lido_syntax.specs.Parts.{leaves_of};
-ghost use Rattle.lido_syntax.specs.declared.spec.Spec.{Spec as Specification};
-ghost use Rattle.rule_tables.specs.Forced.{Force as InForce};
-ghost use Rattle.rule_tables.specs.Needs.{Tables as Numbered, has_start, is_read};
 ghost use Rattle.need_graphs.specs.Reads.{is_tail_place, reads};
 
 use lido_base::{Memory, StrId};
@@ -48,8 +45,7 @@ fn has_read(chain: StrId, starts: bool, found: &[&Expr]) -> bool
 /// Whether the computation reads the chain, where `starts` tells whether the chain starts in its plain rule: what TAIL reads
 /// there comes from the start. An `Err` is want of memory.
 pub fn reads_chain(alloc: Global, comp: &Comp, chain: StrId, starts: bool) -> Result<bool, Memory>
-    ensures { IfOk result (λ found. (spec : Specification) (T : Numbered spec) (forces : Sequence InForce)
-        → has_start spec T forces chain.0 ≡ starts → found ≡ list_any (is_read spec T forces chain.0) (leaves_of comp.now)) }
+    ensures { IfOk result (λ found. found ≡ list_any (reads chain.0 starts) (leaves_of comp.now)) }
 {
     let found = leaves(alloc, comp)?;
     Ok(has_read(chain, starts, &found))

@@ -1,4 +1,6 @@
 pub mod OutputsLemmas
+pub mod DoublesLemmas
+pub mod DoubleTargets
 pub mod DuplicatesLemmas
 pub mod IndicesLemmas
 pub mod UnknownLemmas

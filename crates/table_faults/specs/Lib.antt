@@ -3,3 +3,4 @@ pub mod Parts
 pub mod Indices
 pub mod Unknown
 pub mod Roots
+pub mod Doubles

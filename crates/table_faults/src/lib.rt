@@ -1,12 +1,14 @@
 //! The faults of the tables of a specification, and the first of them.
 #![tactic(auto)]
 
+mod doubles;
 mod duplicates;
 mod indices;
 mod outputs;
 mod roots;
 mod unknown;
 
+pub use doubles::least_double;
 pub use duplicates::least_duplicate;
 pub use indices::least_bad_index;
 pub use outputs::least_bad_out;

@@ -3,6 +3,7 @@
 
 mod attribute_uses;
 mod coordinates;
+mod different;
 mod names;
 mod numbers;
 mod parts;
@@ -11,6 +12,7 @@ mod symbol_uses;
 
 pub use attribute_uses::attribute_names;
 pub use coordinates::{is_coordinate_in_rule, is_coordinate_in_symbol, is_in_production};
+pub use different::{different_names, different_symbols};
 pub use names::Names;
 pub use numbers::{attribute_numbers, numbered, symbol_numbers};
 pub use parts::leaves;

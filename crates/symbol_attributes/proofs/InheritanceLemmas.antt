@@ -19,7 +19,7 @@ use Rattle.symbol_attributes.specs.Inheritance.{number, numbers_of, AreNumberedI
 use Rattle.symbol_attributes.specs.declared.inheritance.Inheritance.{Inheritance}
 
 -- a symbol stands at its number
-number-there : (s : ℕ) (xs : List ℕ) → Contains xs s → slice_get xs (number xs s) ≡ Some s
+pub number-there : (s : ℕ) (xs : List ℕ) → Contains xs s → slice_get xs (number xs s) ≡ Some s
 number-there s [] m = absurd (contains-nil s m)
 number-there s (x ∷ xs) m = by (nat_eq s x) refl (number-there s xs)
   where

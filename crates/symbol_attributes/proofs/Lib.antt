@@ -4,3 +4,9 @@ pub mod UsesLemmas
 pub mod NamedLemmas
 pub mod OwnedLemmas
 pub mod LawLemmas
+pub mod SideLemmas
+pub mod FactsLemmas
+pub mod SaidLemmas
+pub mod OwnersLemmas
+pub mod AttributeLemmas
+pub mod OrderLemmas

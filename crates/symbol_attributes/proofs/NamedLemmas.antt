@@ -52,10 +52,10 @@ at-from chains own p b s a free eb (y, my, ey) =
     subst (λ (c : Bool). Contains (if c then [] else map (on_symbol b) (meant own p)) (it s a)) (sym free) (on-from b (meant own p) s a y eb my ey)
 
 -- what a symbol's item is about
-own-test : (item : SymbolItem) (s : ℕ) (y : Name) → Contains item.names y → name_of y ≡ s → IsTrue (contains s (names_of item))
+pub own-test : (item : SymbolItem) (s : ℕ) (y : Name) → Contains item.names y → name_of y ≡ s → IsTrue (contains s (names_of item))
 own-test item s y m e = test-contains s (names_of item) (subst (λ z. Contains (names_of item) z) e (map-contains name_of item.names y m))
 
-test-own : (item : SymbolItem) (s : ℕ) → IsTrue (contains s (names_of item)) → (y : Name) × Contains item.names y × (name_of y ≡ s)
+pub test-own : (item : SymbolItem) (s : ℕ) → IsTrue (contains s (names_of item)) → (y : Name) × Contains item.names y × (name_of y ≡ s)
 test-own item s h = contains-map name_of item.names s (contains-test s (names_of item) h)
 
 -- a place that means the symbols of a body
@@ -66,17 +66,17 @@ meant-own own place.Inh h = refl
 meant-own own place.This h = refl
 meant-own own place.Tail h = absurd h
 
+pub no-chain : (spec : Spec) (chains : Names) → IsSetOf (IsChain spec) chains → (b : Name) (a : ℕ) → name_of b ≡ a → has chains (name_of b) ≡ false → ¬ IsChain spec a
+no-chain spec chains are b a e free h = absurd (let k = are.all (name_of b) (subst (λ z. IsChain spec z) (sym e) h) in cc)
+
+pub chain-no : (spec : Spec) (chains : Names) → IsSetOf (IsChain spec) chains → (b : Name) (a : ℕ) → name_of b ≡ a → ¬ IsChain spec a → has chains (name_of b) ≡ false
+chain-no spec chains are b a e free = by (has chains (name_of b)) refl
+  where
+    by : (c : Bool) → has chains (name_of b) ≡ c → has chains (name_of b) ≡ false
+    by true f = absurd (free (subst (λ z. IsChain spec z) e (are.only (name_of b) f)))
+    by false f = f
+
 module _ (spec : Spec) (chains : Names) (are : IsSetOf (IsChain spec) chains) (about : All (λ (item : SymbolItem). 0 < length item.names) spec.symbols) where
-  no-chain : (b : Name) (a : ℕ) → name_of b ≡ a → has chains (name_of b) ≡ false → ¬ IsChain spec a
-  no-chain b a e free h = absurd (let k = are.all (name_of b) (subst (λ z. IsChain spec z) (sym e) h) in cc)
-
-  chain-no : (b : Name) (a : ℕ) → name_of b ≡ a → ¬ IsChain spec a → has chains (name_of b) ≡ false
-  chain-no b a e free = by (has chains (name_of b)) refl
-    where
-      by : (c : Bool) → has chains (name_of b) ≡ c → has chains (name_of b) ≡ false
-      by true f = absurd (free (subst (λ z. IsChain spec z) e (are.only (name_of b) f)))
-      by false f = f
-
   rule-use : (c : Comp) (p : Place) (s a : ℕ) → ((x : Name) (i : Option ℤ) → p ≡ place.Named x i → name_of x ≡ s → IsNamed spec s a) → IsMeant [] p s → IsNamed spec s a
   rule-use c (place.Named x i) s a named (y, my, ey) = elim (contains-cons x y [] my) [ inl e ↦ named x i refl (ap name_of e ∙ ey) | inr n ↦ absurd (contains-nil y n) ]
   rule-use c place.Synt s a named (y, my, ey) = absurd (contains-nil y my)
@@ -100,7 +100,7 @@ module _ (spec : Spec) (chains : Names) (are : IsSetOf (IsChain spec) chains) (a
       let (c, mc, n) = contains-flat (named_by chains []) r.body (it s a) mb in
       let (u, mu, h) = comp-to chains [] (it s a) c n in
       let (free, eb, is) = at-to chains [] u.0 u.1 s a h in
-      rule-use c u.0 s a (λ x i e ex. by_name c x i (inl (r, mr, mc)) (u.1, subst (λ (q : Place). Contains (uses c) (q, u.1)) e mu, eb, no-chain u.1 a eb free) ex) is
+      rule-use c u.0 s a (λ x i e ex. by_name c x i (inl (r, mr, mc)) (u.1, subst (λ (q : Place). Contains (uses c) (q, u.1)) e mu, eb, no-chain spec chains are u.1 a eb free) ex) is
 
   to-items : (s a : ℕ) → Contains (flat_map (named_by_item chains) spec.symbols) (it s a) → IsNamed spec s a
   to-items s a m = let (item, mi, n) = contains-flat (named_by_item chains) spec.symbols (it s a) m in
@@ -111,7 +111,7 @@ module _ (spec : Spec) (chains : Names) (are : IsSetOf (IsChain spec) chains) (a
         | inr k ↦ (let (c, mc, h) = contains-flat (named_by chains item.names) item.body (it s a) k in
             let (u, mu, by) = comp-to chains item.names (it s a) c h in
             let (free, eb, is) = at-to chains item.names u.0 u.1 s a by in
-            item-use item c u.0 s a mi mc (u.1, mu, eb, no-chain u.1 a eb free) is)
+            item-use item c u.0 s a mi mc (u.1, mu, eb, no-chain spec chains are u.1 a eb free) is)
       ]
 
   in-rules : (s a : ℕ) (r : RuleItem) (c : Comp) → Contains spec.rules r → Contains r.body c → Contains (named_by chains [] c) (it s a) → Contains (all_named chains spec) (it s a)
@@ -127,7 +127,7 @@ module _ (spec : Spec) (chains : Names) (are : IsSetOf (IsChain spec) chains) (a
       (flat-contains (named_by chains item.names) item.body c (it s a) mc m))
 
   by-use : (own : List Name) (s a : ℕ) (c : Comp) (p : Place) → IsUse spec c p a → IsMeant own p s → Contains (named_by chains own c) (it s a)
-  by-use own s a c p (b, mu, eb, free) is = comp-from chains own (it s a) c (p, b) mu (at-from chains own p b s a (chain-no b a eb free) eb is)
+  by-use own s a c p (b, mu, eb, free) is = comp-from chains own (it s a) c (p, b) mu (at-from chains own p b s a (chain-no spec chains are b a eb free) eb is)
 
   from-named : (s a : ℕ) → IsNamed spec s a → Contains (all_named chains spec) (it s a)
   from-named s a (declared d (item, mi, own, md, e)) =

@@ -1,6 +1,6 @@
 -- What the uses of a computation name, by its target and its leaves.
 use Rattle.std.specs.Prelude.{Contains, filter, flat_map}
-use Rattle.std.proofs.Common.{◌≡◌, Bool, true, false, cond, inl, inr, List, [], ◌∷◌, ◌++◌, refl, sym, ap, subst, ◌∙◌}
+use Rattle.std.proofs.Common.{◌≡◌, Bool, true, false, cond, ◌⊎◌, inl, inr, List, [], ◌∷◌, ◌++◌, refl, sym, ap, subst, ◌∙◌}
 use Rattle.std.proofs.lemmas.List.Elements.{Contains-append_left, Contains-append_right, Contains-append_cases}
 use Rattle.lido_base.proofs.Lists.{contains-nil, contains-cons, contains-here, contains-map, map-contains, contains-flat, flat-contains}
 use Rattle.lido_syntax.specs.declared.spec.Name.{Name}
@@ -35,6 +35,24 @@ no-use (Call' f shape args) h = refl
 
 leaf-reads : (e : Expr) → flat_map uses_of_part (leaves e) ≡ reads e
 leaf-reads e = flat-filtered uses_of_part is_leaf no-use (parts e)
+
+-- what a computation names it names in its target or in a leaf
+pub of-target : (c : Comp) (u : Use) → Contains (target_uses c.target) u → Contains (uses c) u
+of-target c u m = Contains-append_left (target_uses c.target) (flat_map reads (expressions_of c)) u m
+
+pub of-leaf : (c : Comp) (leaf : Expr) (u : Use) → Contains (leaves_of c) leaf → Contains (uses_of_part leaf) u → Contains (uses c) u
+of-leaf c leaf u ml mu =
+    let (e, me, k) = contains-flat leaves (expressions_of c) leaf ml in
+    Contains-append_right (target_uses c.target) (flat_map reads (expressions_of c)) u
+    (flat-contains reads (expressions_of c) e u me (subst (λ (us : List Use). Contains us u) (leaf-reads e) (flat-contains uses_of_part (leaves e) leaf u k mu)))
+
+pub use-found : (c : Comp) (u : Use) → Contains (uses c) u → Contains (target_uses c.target) u ⊎ ((leaf : Expr) × Contains (leaves_of c) leaf × Contains (uses_of_part leaf) u)
+use-found c u m = elim (Contains-append_cases (target_uses c.target) (flat_map reads (expressions_of c)) u m) [
+  | inl t ↦ inl t
+  | inr l ↦ (let (e, me, k) = contains-flat reads (expressions_of c) u l in
+      let (leaf, ml, n) = contains-flat uses_of_part (leaves e) u (subst (λ (us : List Use). Contains us u) (sym (leaf-reads e)) k) in
+      inr (leaf, flat-contains leaves (expressions_of c) e leaf me ml, n))
+]
 
 module _ (chains : Names) (own : List Name) (x : SymbolAttribute) where
   -- the use names the attribute on the symbol
@@ -75,22 +93,14 @@ module _ (chains : Names) (own : List Name) (x : SymbolAttribute) where
 
   pub comp-to : (c : Comp) → Contains (named_by chains own c) x → (u : Use) × Contains (uses c) u × IsBy u
   comp-to c m = elim (Contains-append_cases (named_by_target chains own c.target) (flat_map (named_by_leaf chains own) (leaves_of c)) x m) [
-    | inl t ↦ (let (u, mu, h) = target-to c.target t in (u, Contains-append_left (target_uses c.target) (flat_map reads (expressions_of c)) u mu, h))
+    | inl t ↦ (let (u, mu, h) = target-to c.target t in (u, of-target c u mu, h))
     | inr l ↦ (let (leaf, ml, n) = contains-flat (named_by_leaf chains own) (leaves_of c) x l in
-        let (u, mu, h) = leaf-to leaf n in
-        let (e, me, k) = contains-flat leaves (expressions_of c) leaf ml in (
-          u,
-          Contains-append_right (target_uses c.target) (flat_map reads (expressions_of c)) u
-              (flat-contains reads (expressions_of c) e u me (subst (λ (us : List Use). Contains us u) (leaf-reads e) (flat-contains uses_of_part (leaves e) leaf u k mu))),
-          h,
-        ))
+        let (u, mu, h) = leaf-to leaf n in (u, of-leaf c leaf u ml mu, h))
   ]
 
   pub comp-from : (c : Comp) (u : Use) → Contains (uses c) u → IsBy u → Contains (named_by chains own c) x
-  comp-from c u m h = elim (Contains-append_cases (target_uses c.target) (flat_map reads (expressions_of c)) u m) [
+  comp-from c u m h = elim (use-found c u m) [
     | inl t ↦ Contains-append_left (named_by_target chains own c.target) (flat_map (named_by_leaf chains own) (leaves_of c)) x (target-from c.target u t h)
-    | inr l ↦ (let (e, me, k) = contains-flat reads (expressions_of c) u l in
-        let (leaf, ml, n) = contains-flat uses_of_part (leaves e) u (subst (λ (us : List Use). Contains us u) (sym (leaf-reads e)) k) in
-        Contains-append_right (named_by_target chains own c.target) (flat_map (named_by_leaf chains own) (leaves_of c)) x
-        (flat-contains (named_by_leaf chains own) (leaves_of c) leaf x (flat-contains leaves (expressions_of c) e leaf me ml) (leaf-from leaf u n h)))
+    | inr (leaf, ml, n) ↦ Contains-append_right (named_by_target chains own c.target) (flat_map (named_by_leaf chains own) (leaves_of c)) x
+        (flat-contains (named_by_leaf chains own) (leaves_of c) leaf x ml (leaf-from leaf u n h))
   ]

@@ -1,4 +1,6 @@
 pub mod Inheritance
 pub mod Named
 pub mod Owned
+pub mod Facts
+pub mod Said
 pub mod Written

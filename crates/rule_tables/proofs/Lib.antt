@@ -2,3 +2,10 @@ pub mod SlotLemmas
 pub mod NeedsLemmas
 pub mod PlainLemmas
 pub mod RootLemmas
+pub mod LaterTexts
+pub mod CellLemmas
+pub mod KindLemmas
+pub mod ClassLemmas
+pub mod LaterUses
+pub mod TableLemmas
+pub mod LimitLemmas

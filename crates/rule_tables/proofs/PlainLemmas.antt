@@ -1,9 +1,8 @@
 -- Plain rules and shapes, one after another.
 use Rattle.std.specs.Prelude.{filter, slice_get}
 use Rattle.std.specs.List.{AllZip}
-use Rattle.std.proofs.Common.{◌≡◌, ℕ, zero, suc, ◌+◌, ◌<◌, ◌≤◌, Bool, true, false, nat_eq, if◌then◌else◌, List, [], ◌∷◌, ◌++◌, length, map, take, get_or, Option, Some, None, refl, ap, sym, subst, ◌∙◌, arith, zero-add, add-zero, eq-eqb, eqb-true, cond, length-append}
-use Rattle.std.proofs.lemmas.List.{take_more, length-take-le, map-append}
-use Rattle.std.proofs.lemmas.List.Elements.{filter-append}
+use Rattle.std.proofs.Common.{◌≡◌, ℕ, zero, suc, ◌+◌, ◌<◌, ◌≤◌, Bool, true, false, nat_eq, if◌then◌else◌, List, [], ◌∷◌, ◌++◌, length, map, take, get_or, Some, refl, ap, sym, subst, ◌∙◌, arith, zero-add, add-zero, eq-eqb, eqb-true, cond}
+use Rattle.std.proofs.lemmas.List.{take_more, length-take-le}
 use Rattle.lido_base.specs.declared.ids.StrId.{StrId}
 use Rattle.lido_symbols.specs.Numbers.{place_in, enumerated}
 use Rattle.lido_symbols.specs.Occurrences.{numbers}

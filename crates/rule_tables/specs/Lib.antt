@@ -11,3 +11,7 @@ pub mod TablesOf
 pub mod ForcedOf
 pub mod ExtraOf
 pub mod Roots
+pub mod RuleNames
+pub mod CellRules
+pub mod SymbolKinds
+pub mod DirectClasses

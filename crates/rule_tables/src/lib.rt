@@ -1,11 +1,17 @@
 //! The numbers and tables of a specification, and its flat grammar, as definitions.
 #![tactic(auto)]
 
+mod cell_names;
+mod cell_rules;
+mod cells;
+mod direct_classes;
 mod extra;
 mod forced;
 mod laws;
 mod root;
+mod rows;
 mod rule_shapes;
+mod symbol_kinds;
 mod tables;
 mod written;
 

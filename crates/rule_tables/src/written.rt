@@ -50,7 +50,7 @@ fn written(alloc: Global, symbols: &Names, rule: &RuleItem, cell: SymId) -> Resu
 }
 
 /// The number of the next list's cell.
-fn next_cell(rule: &RuleItem, cell: usize) -> usize
+pub fn next_cell(rule: &RuleItem, cell: usize) -> usize
     requires { cell ≤ 512 }
     ensures { result ≡ cell + (if rule.now.list then 1 else 0) }
 {

@@ -1,9 +1,8 @@
-use Rattle.std.proofs.Common.{◌≡◌, List, ap, sym, subst, ◌∙◌, not, true, false, Bool, true≢false, length, get_or, ◌<◌}
+use Rattle.std.proofs.Common.{◌≡◌, List, ap, sym, subst, ◌∙◌, true≢false, length, get_or, ◌<◌}
 use Rattle.std.proofs.lemmas.List.{take_all}
 use Rattle.lido_syntax.specs.declared.spec.RuleItem.{RuleItem}
 use Rattle.lido_syntax.specs.Production.{left_of}
-use Rattle.kind_clashes.specs.Names.{has}
-use Rattle.rule_tables.proofs.RootLemmas.{AreBelow, below-more, no-root, nonterminal-at}
+use Rattle.rule_tables.proofs.RootLemmas.{AreBelow, no-root, nonterminal-at}
 use Rattle.rule_tables.proofs.root.root_of.Goals as goal
 
 pub returns-then-not-has : goal.returns-then-not-has

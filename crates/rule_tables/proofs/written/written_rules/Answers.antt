@@ -1,11 +1,9 @@
-use Rattle.std.proofs.Common.{◌≡◌, ◌+◌, ap, sym, subst, ◌∙◌, length, map, take, slice_get, Some, true, if◌then◌else◌, add_assoc, arith, ◌≤◌}
+use Rattle.std.proofs.Common.{◌≡◌, ◌+◌, ap, sym, subst, ◌∙◌, length, take, slice_get, Some, if◌then◌else◌, add_assoc, arith, ◌≤◌}
 use Rattle.std.specs.List.{AllZip}
 use Rattle.std.proofs.lemmas.List.{take_all}
 use Rattle.std.proofs.lemmas.Option.{slice_get-get_or}
-use Rattle.lido_base.specs.Environment.{Environment}
-use Rattle.lido_syntax.specs.declared.spec.Spec.{Spec as Specification}
 use Rattle.lido_symbols.specs.Numbers.{enumerated}
-use Rattle.rule_tables.specs.PlainRules.{cell as cell_of, written_rule}
+use Rattle.rule_tables.specs.PlainRules.{written_rule}
 use Rattle.rule_tables.specs.TablesOf.{IsPlainOf}
 use Rattle.rule_tables.proofs.PlainLemmas.{zip-more, zip-map, cell_at, list_count, is_list, take_count}
 use Rattle.lido_syntax.specs.declared.spec.RuleItem.{RuleItem as Rule}

@@ -1,0 +1,86 @@
+//! The classes that symbols inherit directly.
+ghost use Rattle.std.specs.Prelude.{◌≡◌, ◌≤◌, nat_eq, length, Contains, IfOk, OnOk};
+ghost use Rattle.std.specs.List.{list_any};
+ghost use Rattle.lido_base.specs.Environment.{Environment};
+ghost use Rattle.lido_base.specs.Tree.{contains};
+ghost use Rattle.lido_syntax.specs.declared.spec.Spec.{Spec as Specification};
+ghost use Rattle.lido_syntax.specs.declared.spec.Name.{Name as Named};
+ghost use Rattle.lido_syntax.specs.declared.spec.SymbolItem.{SymbolItem as Item};
+ghost use Rattle.lido_syntax.specs.Production.{name_of};
+ghost use Rattle.lido_syntax.specs.Sets.{names_of};
+ghost use Rattle.kind_clashes.specs.Least.{Among};
+ghost use Rattle.kind_clashes.specs.Names.{HasMore, IsSetOf};
+ghost use Rattle.rule_tables.specs.DirectClasses.{IsHandedBy, AreNumbersOf};
+ghost use Rattle.rule_tables.specs.TablesOf.{AreClassesOf};
+
+use kind_clashes::Names as Classes;
+use lido_base::{List, Memory, StrId, SymId};
+use lido_symbols::Names;
+use lido_syntax::{Name, SymbolItem};
+use std::alloc::Global;
+
+/// Whether one of the names is this one.
+fn has_name(names: &[Name], id: StrId) -> bool
+    ensures { result ≡ list_any (λ (x : Named). nat_eq id.0 (name_of x)) names.now }
+{
+    names.iter().any(|name| id.0 == name.id.0)
+}
+
+/// Whether the item is about the symbol.
+fn is_about(item: &SymbolItem, symbol: StrId) -> bool
+    ensures { result ≡ contains symbol.0 (names_of item.now) }
+{
+    has_name(item.names.as_slice(), symbol)
+}
+
+/// Adds the classes that the item hands to the symbol.
+fn add_handed(classes: &mut Classes, item: &SymbolItem, symbol: StrId) -> Result<(), Memory>
+    ensures { OnOk result (HasMore (IsHandedBy symbol.0 item.now) classes.old classes.new) }
+{
+    if !is_about(item, symbol) {
+        return Ok(());
+    }
+    classes.add_all(item.inherits.as_slice())
+}
+
+/// The classes that items of the symbol name behind INHERITS.
+fn handed_to(alloc: Global, items: &[SymbolItem], symbol: StrId) -> Result<Classes, Memory>
+    ensures { IfOk result (IsSetOf (Among (IsHandedBy symbol.0) items.now)) }
+{
+    let mut classes = Classes::new(alloc);
+    for item in items {
+        add_handed(&mut classes, item, symbol)?;
+    }
+    Ok(classes)
+}
+
+/// The numbers of these classes, ascending.
+fn numbers_of(alloc: Global, symbols: &Names, classes: &Classes) -> Result<List<SymId>, Memory>
+    requires { length symbols.now ≤ 512 }
+    ensures { IfOk result (AreNumbersOf symbols.now classes.now (length symbols.now)) }
+{
+    let mut ids = Vec::new(alloc);
+    for (k, symbol) in symbols.as_slice().iter().enumerate() {
+        if classes.has(StrId(*symbol)) {
+            ids.push(SymId(k as u16))?;
+        }
+    }
+    Ok(List::from_vec(ids))
+}
+
+/// The classes that items of the symbol name behind INHERITS, each once, by their numbers. (`symbols` are all that the items
+/// name.)
+pub fn direct_classes(
+    alloc: Global,
+    symbols: &Names,
+    items: &[SymbolItem],
+    symbol: StrId,
+) -> Result<List<SymId>, Memory>
+    requires few { length symbols.now ≤ 512 }
+    requires numbered { (item : Item) (x : Named) → Contains items.now item → Contains item.inherits x → Contains symbols.now (name_of x) }
+    ensures { IfOk result (λ ids. (spec : Specification) (env : Environment) → spec.symbols ≡ items.now
+        → AreClassesOf spec env symbols.now symbol.0 ids) }
+{
+    let classes = handed_to(alloc, items, symbol)?;
+    numbers_of(alloc, symbols, &classes)
+}

@@ -13,7 +13,7 @@ use Rattle.rule_tables.specs.Needs.{Tables as Numbered}
 use Rattle.computation_aims.specs.Aims.{goal_of}
 use Rattle.symbol_inherit.specs.Index.{noted}
 use Rattle.symbol_inherit.specs.Symbols.{HasOwn}
-use Rattle.symbol_inherit.specs.Rules.{HasRule}
+use Rattle.symbol_inherit.specs.Rules.{HasRuleAt}
 use Rattle.symbol_inherit.specs.Classes.{AreHeirs}
 use Rattle.symbol_inherit.specs.BySymbol as its
 use Rattle.symbol_inherit.specs.BySymbol.{BySymbol, Says}
@@ -28,9 +28,9 @@ use Rattle.symbol_inherit.proofs.StandingLemmas.{found-says}
 
 module _ (t : Tables) (env : Environment) (is : AreTablesOf env t) (single : IsSingle t.spec) (classes : Classes) (heirs : AreHeirs t classes) (index : Index) (owns : HasOwn t index)
     (count : ℕ) (counted : length (named_symbols t) ≡ count) (x s : ℕ) (at : slice_get (named_symbols t) x ≡ Some s) (aim : Aim) (T : Numbered t.spec)
-    (r : RuleItem) (rule : Index) (its_own : HasRule t.spec r rule) (occ : ℕ) (goal : IsGoalOf r occ s (goal_of aim)) where
+    (r : RuleItem) (rule : Index) (occ : ℕ) (its_own : HasRuleAt t.spec r occ rule) (goal : IsGoalOf r occ s (goal_of aim)) where
   not-in-rule : noted rule occ aim ≡ None → ¬ HasInRule t.spec r occ (goal_of aim)
-  not-in-rule none (c, h) = let (o, e) = its_own.all occ aim c h in none-some o (sym none ∙ e)
+  not-in-rule none (c, h) = let (o, e) = its_own.all aim c h in none-some o (sym none ∙ e)
 
   by-symbol-force : ¬ HasInRule t.spec r occ (goal_of aim) → (c : Comp) → BySymbol t.spec s (goal_of aim) c → InForce t.spec r occ s (goal_of aim) by_symbol c
   by-symbol-force none c (its.own h) = of_symbol goal none h
@@ -42,7 +42,7 @@ module _ (t : Tables) (env : Environment) (is : AreTablesOf env t) (single : IsS
   force-by-symbol none _ c (of_class class g no_own not_own left only h) = its.inherited class not_own left only h
 
   pub resolved-held : (o : Option Held) → IsResolved rule classes index count x occ aim o → IsHeld t.spec r occ s (goal_of aim) o
-  resolved-held _ (own o e) = let (c, h, k) = its_own.each occ aim o e in (by_rule, c, of_rule goal h, refl, ap (λ (o : Own). o.number) k)
+  resolved-held _ (own o e) = let (c, h, k) = its_own.each aim o e in (by_rule, c, of_rule goal h, refl, ap (λ (o : Own). o.number) k)
   resolved-held _ (found n none f) =
       let (c, h, k) = found-says t env is single classes heirs index owns count counted x s at aim T _ f in
       (by_symbol, c, by-symbol-force (not-in-rule none) c h, refl, k)

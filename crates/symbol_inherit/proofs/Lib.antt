@@ -9,3 +9,4 @@ pub mod RuleLemmas
 pub mod ForceLemmas
 pub mod HeirLemmas
 pub mod CycleLemmas
+pub mod KindLemmas

@@ -10,7 +10,7 @@ use Rattle.symbol_inherit.specs.Notes.{own_of, placed, rule_note, rule_notes}
 use Rattle.symbol_inherit.specs.Index.{noted, Holds}
 use Rattle.computation_aims.specs.Aims.{AreChains}
 use Rattle.computation_aims.proofs.RuleAims.{aim-target, target-aim}
-use Rattle.symbol_inherit.specs.Rules.{HasRule}
+use Rattle.symbol_inherit.specs.Rules.{HasRule, HasRuleAt}
 use Rattle.computation_aims.specs.declared.aims.Aim.{Aim}
 use Rattle.symbol_inherit.specs.declared.notes.Own.{Own}
 use Rattle.symbol_inherit.specs.declared.notes.Note.{Note}
@@ -33,3 +33,6 @@ module _ (spec : Spec) (chains : List ℕ) (are : AreChains spec chains) (r : Ru
       all k aim c (of, h) =
           holds.all (record { place = k; aim = aim; own = own_of c })
           (filtered-contains (rule_note chains r) r.body c _ of (ap (option_map (placed c)) (target-aim spec chains are r c c.target k aim h)))
+
+pub rule-at : (spec : Spec) (r : RuleItem) (index : Index) → HasRule spec r index → (k : ℕ) → HasRuleAt spec r k index
+rule-at spec r index has k = record { each = λ aim own e. has.each k aim own e; all = λ aim c h. has.all k aim c h }

@@ -7,3 +7,4 @@ pub mod Standings
 pub mod BySymbol
 pub mod Rules
 pub mod Forces
+pub mod BySymbols

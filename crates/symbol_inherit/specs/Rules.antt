@@ -15,3 +15,8 @@ use Rattle.symbol_inherit.specs.declared.index.Index.{Index}
 pub record HasRule (spec : Spec) (r : RuleItem) (index : Index) : Type 0 where
   pub each : (k : ℕ) (aim : Aim) (own : Own) → noted index k aim ≡ Some own → (c : Comp) × InRule spec r k (goal_of aim) c × (own_of c ≡ own)
   pub all : (k : ℕ) (aim : Aim) (c : Comp) → InRule spec r k (goal_of aim) c → (own : Own) × (noted index k aim ≡ Some own)
+
+-- the same at one occurrence
+pub record HasRuleAt (spec : Spec) (r : RuleItem) (k : ℕ) (index : Index) : Type 0 where
+  pub each : (aim : Aim) (own : Own) → noted index k aim ≡ Some own → (c : Comp) × InRule spec r k (goal_of aim) c × (own_of c ≡ own)
+  pub all : (aim : Aim) (c : Comp) → InRule spec r k (goal_of aim) c → (own : Own) × (noted index k aim ≡ Some own)

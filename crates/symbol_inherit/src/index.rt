@@ -19,7 +19,7 @@ pub struct Index {
 impl Index {
     /// The index without entries. It takes no memory.
     #[tactic(auto, unfolding(crate::specs::Index::noted))]
-    fn new(alloc: Global) -> Index
+    pub fn new(alloc: Global) -> Index
         ensures { (place : ℕ) (aim : AnyAim) → noted result place aim ≡ None }
     {
         Index {

@@ -11,5 +11,6 @@ mod notes;
 mod numbers;
 mod rule_notes;
 mod standing;
+mod symbols;
 
 pub use cycle::class_cycle;

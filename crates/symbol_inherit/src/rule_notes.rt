@@ -1,9 +1,13 @@
 //! The computations of a rule's body with what they give values to.
-ghost use Rattle.std.specs.Prelude.{◌≡◌, IfOk, OnOk};
+ghost use Rattle.std.specs.Prelude.{◌≡◌, IfOk};
+ghost use Rattle.computation_aims.specs.Aims.{AreChains};
 ghost use Rattle.lido_symbols.specs.Occurrences.{IsProductionOf};
 ghost use Rattle.lido_syntax.specs.declared.spec.RuleItem.{RuleItem as Rule};
+ghost use Rattle.lido_syntax.specs.declared.spec.Spec.{Spec as Specification};
 ghost use Rattle.symbol_inherit.specs.Notes.{rule_note, rule_notes as notes_of_rule};
+ghost use Rattle.symbol_inherit.specs.Rules.{HasRule};
 
+use crate::index::Index;
 use crate::notes::{Note, Own};
 use computation_aims::rule_aim;
 use lido_base::Memory;
@@ -35,4 +39,13 @@ pub fn rule_notes(alloc: Global, chains: &Names, rule: &RuleItem) -> Result<Vec<
         }
     }
     Ok(notes)
+}
+
+/// The computations of a rule, by what they give values to.
+pub fn rule_index(alloc: Global, chains: &Names, rule: &RuleItem) -> Result<Index, Memory>
+    ensures { IfOk result (λ index. (spec : Specification) → AreChains spec chains.now → HasRule spec rule.now index) }
+{
+    let notes = rule_notes(alloc, chains, rule)?;
+    let index = Index::of(alloc, &notes)?;
+    Ok(index)
 }

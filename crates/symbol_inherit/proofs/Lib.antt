@@ -10,3 +10,11 @@ pub mod ForceLemmas
 pub mod HeirLemmas
 pub mod CycleLemmas
 pub mod KindLemmas
+pub mod EntryLemmas
+pub mod FilledLemmas
+pub mod OccurrenceLemmas
+pub mod GoalLemmas
+pub mod MessageLemmas
+pub mod PlaceLemmas
+pub mod WholeLemmas
+pub mod PlainOfLemmas

@@ -93,7 +93,7 @@ module _ (uses : List (ℕ × ℕ)) (keys : List ℕ) (numbered : AreNumbered na
           at_most (inr g) = omega arith
 
 -- the written rules that are lists
-enumerated-rule : {X : Type 0} (k i : ℕ) (x : X) (xs : List X) → Contains (enumerated k xs) (i, x) → (k ≤ i) × (slice_get xs (i - k) ≡ Some x)
+pub enumerated-rule : {X : Type 0} (k i : ℕ) (x : X) (xs : List X) → Contains (enumerated k xs) (i, x) → (k ≤ i) × (slice_get xs (i - k) ≡ Some x)
 enumerated-rule k i x [] m = absurd (contains-nil (i, x) m)
 enumerated-rule {X} k i x (y ∷ xs) m = by (contains-cons (k, y) (i, x) (enumerated (suc k) xs) m) (enumerated-rule (suc k) i x xs)
   where

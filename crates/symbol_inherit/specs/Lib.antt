@@ -8,3 +8,6 @@ pub mod BySymbol
 pub mod Rules
 pub mod Forces
 pub mod BySymbols
+pub mod Entries
+pub mod Places
+pub mod CellRules

@@ -4,11 +4,13 @@
 
 mod classes;
 mod cycle;
+mod entries;
 mod forced;
 mod index;
 mod left;
 mod notes;
 mod numbers;
+mod rule_entries;
 mod rule_notes;
 mod standing;
 mod symbols;

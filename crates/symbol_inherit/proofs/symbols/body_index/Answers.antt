@@ -1,4 +1,4 @@
-use Rattle.std.proofs.Common.{◌≡◌, ◌∙◌, ap, sym, subst, List}
+use Rattle.std.proofs.Common.{◌∙◌, ap, subst, List}
 use Rattle.lido_syntax.specs.declared.spec.SymbolItem.{SymbolItem}
 use Rattle.rule_tables.specs.declared.tables.SymbolRow.{SymbolRow}
 use Rattle.symbol_inherit.specs.Notes.{all_notes}

@@ -1,5 +1,5 @@
 use Rattle.std.specs.Prelude.{option_to_list, filter_map}
-use Rattle.std.proofs.Common.{◌≡◌, ◌∙◌, ap, sym, arith, length, take, length-append, List, ℕ}
+use Rattle.std.proofs.Common.{◌∙◌, ap, sym, arith, length, take, length-append, List, ℕ}
 use Rattle.rule_tables.specs.TablesOf.{symbol_named}
 use Rattle.symbol_inherit.proofs.Lists.{filtered-more}
 use Rattle.symbol_inherit.proofs.symbols.named_count.Goals as goal

@@ -1,6 +1,6 @@
 -- The last place in front of a child.
 use Rattle.std.specs.Prelude.{filter, slice_get, nat_lt, cond, if◌then◌else◌}
-use Rattle.std.proofs.Common.{◌≡◌, ℕ, zero, suc, ◌+◌, ◌≤◌, ◌⊎◌, inl, inr, Bool, true, false, List, [], ◌∷◌, ◌++◌, length, map, take, Option, Some, refl, sym, ap, ◌∙◌, arith}
+use Rattle.std.proofs.Common.{◌≡◌, ℕ, zero, suc, ◌+◌, ◌≤◌, Bool, true, false, List, [], ◌∷◌, ◌++◌, length, map, take, Option, Some, refl, sym, ap, ◌∙◌, arith}
 use Rattle.std.proofs.lemmas.Option.{none-some, same_Some}
 use Rattle.std.proofs.lemmas.Bool.{lt-ltb, le-ltb}
 use Rattle.std.proofs.lemmas.List.{append-nil}
@@ -69,9 +69,9 @@ last-more test k x xs last at is =
     ∙ sym (last-with (test x) (places_from test 1 (take k xs)) (1 + k)) ∙ ap last_of (sym (places-more test 1 k x xs at))
     ∙ (let h : suc k ≡ k + 1 = omega arith in ap (λ m. last_of (places_from test 1 (take m xs))) h)
 
--- what stands in a list with one item more
-pub push-at : {X : Type 0} (xs : List X) (v : X) (j : ℕ) (w : X) → slice_get (xs ++ v ∷ []) j ≡ Some w → (slice_get xs j ≡ Some w) ⊎ ((j ≡ length xs) × (v ≡ w))
-push-at [] v zero w e = inr (refl, same_Some _ _ e)
-push-at [] v (suc j) w e = absurd (none-some _ e)
-push-at (x ∷ xs) v zero w e = inl e
-push-at (x ∷ xs) v (suc j) w e = elim (push-at xs v j w e) [ inl h ↦ inl h | inr h ↦ inr (ap suc h.0, h.1) ]
+-- the last item of a list with one item more
+pub push-last : {X : Type 0} (xs : List X) (v : X) (j : ℕ) → j ≡ length xs → slice_get (xs ++ v ∷ []) j ≡ Some v
+push-last [] v zero e = refl
+push-last [] v (suc j) e = absurd (omega (arith, e))
+push-last (x ∷ xs) v zero e = absurd (omega (arith, e))
+push-last (x ∷ xs) v (suc j) e = push-last xs v j (omega (arith, e))

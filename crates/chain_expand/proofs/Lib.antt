@@ -1,1 +1,4 @@
 pub mod FrontLemmas
+pub mod CompLemmas
+pub mod AttrLemmas
+pub mod TermLemmas

@@ -77,13 +77,13 @@ behind-first x xs zero n = absurd (n refl)
 behind-first x xs (suc k) n = let e : k ≡ suc k - 1 = omega arith in ap (slice_get xs) e
 
 -- what one item more adds behind others
-pub numbered-more : {X Y : Type 0} (g : ℕ × X → List Y) (xs : List X) (k : ℕ) (x : X) (front old new more : List Y) → k < length xs → x ≡ get_or xs k x
-    → old ≡ front ++ flat_map g (enumerated 0 (take k xs)) → new ≡ old ++ more → more ≡ g (k, x) → new ≡ front ++ flat_map g (enumerated 0 (take (k + 1) xs))
-numbered-more g xs k x front old new more within is before after made =
+pub numbered-more : {X Y : Type 0} (g : ℕ × X → List Y) (xs : List X) (k : ℕ) (d : X) (front old new more : List Y) → k < length xs
+    → old ≡ front ++ flat_map g (enumerated 0 (take k xs)) → new ≡ old ++ more → more ≡ g (k, get_or xs k d) → new ≡ front ++ flat_map g (enumerated 0 (take (k + 1) xs))
+numbered-more g xs k d front old new more within before after made =
+    let x = get_or xs k d in
     let so_far = flat_map g (enumerated 0 (take k xs)) in
     let next : flat_map g (enumerated 0 (take (k + 1) xs)) ≡ so_far ++ g (k, x) =
-    ap (flat_map g) (enumerated-more xs k x within) ∙ flat_map-append g (enumerated 0 (take k xs)) ((k, get_or xs k x) ∷ [])
-    ∙ ap (λ l. so_far ++ l) (append-nil (g (k, get_or xs k x)) ∙ ap (λ z. g (k, z)) (sym is)) in
+    ap (flat_map g) (enumerated-more xs k d within) ∙ flat_map-append g (enumerated 0 (take k xs)) ((k, x) ∷ []) ∙ ap (λ l. so_far ++ l) (append-nil (g (k, x))) in
     after ∙ (λ i. before i ++ made i) ∙ append_assoc front so_far (g (k, x)) ∙ ap (λ l. front ++ l) (sym next)
 
 filter_map-one : {X Y : Type 0} (h : X → Option Y) (x : X) (o : Option Y) → h x ≡ o → filter_map h (x ∷ []) ≡ option_to_list o
@@ -96,3 +96,12 @@ pub filtered-next : {X Y : Type 0} (h : X → Option Y) (xs : List X) (i : ℕ) 
 filtered-next h xs i d o front old new within made before after =
     let next = ap (filter_map h) (take_more xs i d within) ∙ filter_map-append h (take i xs) (get_or xs i d ∷ []) ∙ ap (λ r. filter_map h (take i xs) ++ r) (filter_map-one h (get_or xs i d) o made) in
     after ∙ ap (λ l. l ++ option_to_list o) before ∙ append_assoc front (filter_map h (take i xs)) (option_to_list o) ∙ ap (λ l. front ++ l) (sym next)
+
+pub numbered-next : {X Y : Type 0} (h : ℕ × X → Option Y) (xs : List X) (k : ℕ) (d : X) (o : Option Y) (front old new : List Y) → k < length xs → h (k, get_or xs k d) ≡ o
+    → old ≡ front ++ filter_map h (enumerated 0 (take k xs)) → new ≡ old ++ option_to_list o → new ≡ front ++ filter_map h (enumerated 0 (take (k + 1) xs))
+numbered-next h xs k d o front old new within made before after =
+    let x = get_or xs k d in
+    let so_far = filter_map h (enumerated 0 (take k xs)) in
+    let next : filter_map h (enumerated 0 (take (k + 1) xs)) ≡ so_far ++ option_to_list o =
+    ap (filter_map h) (enumerated-more xs k d within) ∙ filter_map-append h (enumerated 0 (take k xs)) ((k, x) ∷ []) ∙ ap (λ l. so_far ++ l) (filter_map-one h (k, x) o made) in
+    after ∙ ap (λ l. l ++ option_to_list o) before ∙ append_assoc front so_far (option_to_list o) ∙ ap (λ l. front ++ l) (sym next)

@@ -15,4 +15,4 @@ pub use chains::{chain_graph, started};
 pub use children::child_graph;
 pub use needs::chain_needs;
 pub use paths::chain_path;
-pub use users::chain_users;
+pub use users::{chain_users, forces_at};

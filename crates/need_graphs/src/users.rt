@@ -67,7 +67,7 @@ fn user(
 }
 
 /// What is in force in the plain rule of this number.
-fn forces_at(comps: &[List<Force>], k: usize) -> &[Force]
+pub fn forces_at(comps: &[List<Force>], k: usize) -> &[Force]
     ensures { result.now ≡ entries_at comps.now k }
 {
     match comps.get(k) {

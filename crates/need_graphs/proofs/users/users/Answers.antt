@@ -1,4 +1,4 @@
-use Rattle.std.proofs.Common.{ℕ, [], ap}
+use Rattle.std.proofs.Common.{ℕ, [], ap, ◌∙◌}
 use Rattle.flat_grammar.specs.declared.flat.FlatRule.{FlatRule}
 use Rattle.need_graphs.specs.Users.{entries_at, rule_users}
 use Rattle.need_graphs.proofs.ListLemmas.{numbered-more}
@@ -8,5 +8,6 @@ pub loop-k-preserved : goal.loop-k-preserved
 loop-k-preserved c =
     let rule = c.index-plain-k.result in
     let its = rule_users c.args.chains.now c.args.chain.0 c.args.readers.now in
-    numbered-more (λ (x : ℕ × FlatRule). its x.1 (entries_at c.args.comps.now x.0)) c.args.plain.now c.loop-k.k rule [] c.loop-k.found.items c.note_users.new.found.items (its rule c.forces_at.result.now)
-    c.loop-k-test.true c.index-plain-k.is c.loop-k.invariant c.in_ok-note_users.ensures (ap (its rule) c.forces_at.ensures)
+    let k = c.loop-k.k in
+    numbered-more (λ (x : ℕ × FlatRule). its x.1 (entries_at c.args.comps.now x.0)) c.args.plain.now k rule [] c.loop-k.found.items c.note_users.new.found.items (its rule c.forces_at.result.now)
+    c.loop-k-test.true c.loop-k.invariant c.in_ok-note_users.ensures (ap (its rule) c.forces_at.ensures ∙ ap (λ (r : FlatRule). its r (entries_at c.args.comps.now k)) c.index-plain-k.is)

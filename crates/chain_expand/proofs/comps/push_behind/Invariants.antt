@@ -1,0 +1,7 @@
+use Rattle.std.proofs.Common.{◌≡◌, ◌++◌, take}
+use Rattle.chain_expand.specs.Comps.{behind_comps}
+use Rattle.chain_expand.proofs.comps.push_behind.Given as goal
+
+-- the chains so far
+abbrev pub invariant-loop-i : goal.invariant-loop-i
+invariant-loop-i l = l.comps.items ≡ l.initial.comps.items ++ behind_comps l.rule.0 (take l.i l.walks)

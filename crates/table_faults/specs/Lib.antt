@@ -4,3 +4,4 @@ pub mod Indices
 pub mod Unknown
 pub mod Roots
 pub mod Doubles
+pub mod Limits

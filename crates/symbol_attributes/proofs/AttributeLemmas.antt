@@ -1,7 +1,7 @@
 -- The attribute of a name that a symbol has, by what is said of it.
 use Rattle.std.specs.Prelude.{Contains, unwrap_or}
 use Rattle.std.specs.Option.{option_or}
-use Rattle.std.proofs.Common.{◌≡◌, ℕ, inl, inr, List, [], Option, Some, None, refl, sym, ap, subst, ◌∙◌}
+use Rattle.std.proofs.Common.{false, ◌≡◌, ℕ, inl, inr, List, [], Option, Some, None, refl, sym, ap, subst, ◌∙◌}
 use Rattle.std.proofs.lemmas.Option.{same_Some}
 use Rattle.lido_base.specs.declared.kinds.Kind.{Kind}
 use Rattle.lido_base.specs.declared.kinds.Kind.TheVariants.{Synthesized}
@@ -15,11 +15,13 @@ use Rattle.lido_syntax.specs.declared.spec.Place.TheVariants as place
 use Rattle.lido_syntax.specs.Production.{name_of}
 use Rattle.lido_syntax.specs.Attributes.{target_uses, IsNamed, declared as by_decl, by_name, in_body, IsDeclared, OfClass, Has, Tells, side, synt, inh, IsTypedBySymbol, IsTypedByAttr, HasType, by_symbol, by_attr, HasKind, by_declaration, by_side}
 use Rattle.flat_grammar.specs.declared.flat.FlatAttr.{FlatAttr}
+use Rattle.kind_clashes.specs.declared.names.Names.{Names}
+use Rattle.kind_clashes.specs.Names.{has}
 use Rattle.symbol_attributes.specs.declared.facts.Facts.{Facts}
 use Rattle.symbol_attributes.specs.declared.facts.Said.{Said}
-use Rattle.symbol_attributes.specs.declared.facts.FactTable.{FactTable}
+use Rattle.symbol_attributes.specs.declared.rows.SaidTables.{SaidTables}
 use Rattle.symbol_attributes.specs.declared.facts.AttrTable.{AttrTable}
-use Rattle.symbol_attributes.specs.Facts.{IsOneOf, AreSummed, AreSums, said, IsTableOf, declared_facts, IsSaidBy, known_of}
+use Rattle.symbol_attributes.specs.Facts.{IsOneOf, AreSummed, AreSums, said, IsTableOf, declared_facts, IsSaidBy, known_of, AreSaidOn}
 use Rattle.symbol_attributes.specs.Said.{no_facts, told_facts, IsSaid, named, declared, told}
 use Rattle.symbol_attributes.specs.Written.{IsWrittenAttribute, AreFactsOf, AreOwners, IsAttributeAt, known_by_attr, written_attribute}
 use Rattle.symbol_attributes.proofs.FactsLemmas.{one-same, sums-same}
@@ -117,7 +119,7 @@ module _ (spec : Spec) (s a : ℕ) where
       (λ kind h. with-said (λ x. Tells spec x a kind) (λ x t. (told_facts kind, told t, refl)) h)
       sums.told
 
-  module _ (table : FactTable) (by_attr : AttrTable) (owners : List ℕ) (facts : AreFactsOf spec table by_attr) (are : AreOwners spec s owners) where
+  module _ (tables : SaidTables) (by_attr : AttrTable) (owners : List ℕ) (facts : AreFactsOf spec tables by_attr) (are : AreOwners spec s owners) where
     -- what is said on the owners is said of the symbol or of a class of it
     abbrev IsOnOwners : List Said → Facts → Type 0
     IsOnOwners list f = (x : ℕ) × Contains owners x × Contains list (said x a f)
@@ -132,13 +134,20 @@ module _ (spec : Spec) (s a : ℕ) where
     from-said f (inl is) = (s, (are s).1 (inl refl), (facts.said s a f).1 is)
     from-said f (inr (class, h, is)) = (class, (are class).1 (inr h), (facts.said class a f).1 is)
 
-    sums-said : (o : Option Facts) → ((list : List Said) → IsTableOf list table → AreSums (IsOnOwners list) o) → AreSums IsSaidOf o
-    sums-said o sums = sums-same o to-said from-said (sums facts.list facts.table_of)
+    sums-said : (o : Option Facts) → ((list : List Said) → IsTableOf list tables.facts → AreSums (IsOnOwners list) o) → AreSums IsSaidOf o
+    sums-said o sums = sums-same o to-said from-said (sums facts.list facts.tables_of.facts)
 
-    pub attribute-none : ((list : List Said) → IsTableOf list table → AreSums (IsOnOwners list) None) → ¬ Has spec s a
+    pub attribute-absent : (set : Names) → AreSaidOn facts.list owners set → has set a ≡ false → ¬ Has spec s a
+    attribute-absent set on none is = absurd (
+        let (x, m, k) = from-said no_facts (of-class (λ x n. named n) is) in
+        let there = on.all a (x, m, (no_facts, k)) in
+        cc
+        )
+
+    pub attribute-none : ((list : List Said) → IsTableOf list tables.facts → AreSums (IsOnOwners list) None) → ¬ Has spec s a
     attribute-none sums has = sums-said None sums no_facts (of-class (λ x n. named n) has)
 
-    pub attribute-some : (f : Facts) (x : FlatAttr) → ((list : List Said) → IsTableOf list table → AreSums (IsOnOwners list) (Some f)) → x ≡ written_attribute a f (known_by_attr by_attr a) → IsAttributeAt spec s a (Some x)
+    pub attribute-some : (f : Facts) (x : FlatAttr) → ((list : List Said) → IsTableOf list tables.facts → AreSums (IsOnOwners list) (Some f)) → x ≡ written_attribute a f (known_by_attr by_attr a) → IsAttributeAt spec s a (Some x)
     attribute-some f x sums e = subst (λ (y : FlatAttr). IsWrittenAttribute spec s y × (y.name.0 ≡ a)) (sym e) (
       record {
         of_symbol = of-class (λ x h. said-named spec x a first h) (sum.there.1);

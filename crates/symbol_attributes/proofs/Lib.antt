@@ -10,3 +10,4 @@ pub mod SaidLemmas
 pub mod OwnersLemmas
 pub mod AttributeLemmas
 pub mod OrderLemmas
+pub mod RowsOfLemmas

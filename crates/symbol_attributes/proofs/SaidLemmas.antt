@@ -42,11 +42,11 @@ on-from b f ys s a y eb my ey =
 
 -- a kind is told of an attribute on one of these symbols
 abbrev IsTold : List Name → Option Kind → ℕ → ℕ → Name → Facts → Type 0
-IsTold own o s a b f = (kind : Kind) × (o ≡ Some kind) × (f ≡ told_facts kind) × (name_of b ≡ a) × ((y : Name) × Contains own y × (name_of y ≡ s))
+IsTold own o s a b f = (kind : Kind) × (o ≡ Some kind) × (told_facts kind ≡ f) × (name_of b ≡ a) × ((y : Name) × Contains own y × (name_of y ≡ s))
 
 of-to : (b : Name) (own : List Name) (o : Option Kind) (s a : ℕ) (f : Facts) → Contains (told_of b own o) (said s a f) → IsTold own o s a b f
 of-to b own None s a f m = absurd (contains-nil (said s a f) m)
-of-to b own (Some kind) s a f m = let (eb, ef, is) = on-to b (told_facts kind) f own s a m in (kind, refl, sym ef, eb, is)
+of-to b own (Some kind) s a f m = let (eb, ef, is) = on-to b (told_facts kind) f own s a m in (kind, refl, ef, eb, is)
 
 of-from : (b : Name) (own : List Name) (o : Option Kind) (s a : ℕ) (kind : Kind) (y : Name) → o ≡ Some kind → name_of b ≡ a → Contains own y → name_of y ≡ s → Contains (told_of b own o) (said s a (told_facts kind))
 of-from b own o s a kind y eo eb my ey = subst (λ (p : Option Kind). Contains (told_of b own p) (said s a (told_facts kind))) (sym eo) (on-from b (told_facts kind) own s a y eb my ey)
@@ -145,7 +145,7 @@ module _ (spec : Spec) (chains : Names) (are : IsSetOf (IsChain spec) chains) wh
       let (c, mc, h) = contains-flat (told_by_comp chains item.names) item.body (said s a f) n in
       let (u, mu, by) = comp-to chains item.names (said s a f) c h in
       let (free, (kind, ek, ef, eb, (y, my, ey))) = free-to (has chains (name_of u.1)) u.1 item.names (kind_at u.0) s a f by in
-      subst (IsSaid spec s a) (sym ef) (told (body-tells s a c u.0 kind ek (item, mi, own-test item s y my ey, mc) (u.1, mu, eb, no-chain spec chains are u.1 a eb free)))
+      subst (IsSaid spec s a) {x = told_facts kind} ef (told (body-tells s a c u.0 kind ek (item, mi, own-test item s y my ey, mc) (u.1, mu, eb, no-chain spec chains are u.1 a eb free)))
 
   in-body : (s a : ℕ) (c : Comp) (p : Place) (kind : Kind) → kind_at p ≡ Some kind → InBody spec s c → IsUse spec c p a → Contains (flat_map (told_by_item chains) spec.symbols) (said s a (told_facts kind))
   in-body s a c p kind ek (item, mi, own, mc) (b, mu, eb, free) =
@@ -159,7 +159,7 @@ module _ (spec : Spec) (chains : Names) (are : IsSetOf (IsChain spec) chains) wh
   side-to r c (place.Named x i) b s a f mr mc et m =
       let (free, (kind, ek, ef, eb, (y, my, ey))) = free-to (has chains (name_of b)) b (x ∷ []) (side_of (possible r x i)) s a f m in
       let ex : name_of x ≡ s = elim (contains-cons x y [] my) [ inl e ↦ ap name_of e ∙ ey | inr n ↦ absurd (contains-nil y n) ] in
-      subst (IsSaid spec s a) (sym ef) (told (side r c x i b mr mc et (side-is (possible r x i) kind ek) ex eb (no-chain spec chains are b a eb free)))
+      subst (IsSaid spec s a) {x = told_facts kind} ef (told (side r c x i b mr mc et (side-is (possible r x i) kind ek) ex eb (no-chain spec chains are b a eb free)))
   side-to r c place.Synt b s a f mr mc et m = absurd (contains-nil (said s a f) m)
   side-to r c place.Inh b s a f mr mc et m = absurd (contains-nil (said s a f) m)
   side-to r c place.This b s a f mr mc et m = absurd (contains-nil (said s a f) m)

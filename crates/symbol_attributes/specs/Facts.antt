@@ -1,6 +1,7 @@
 -- What is said of attributes, and what several sayings make together: of each matter one that is said, if one is.
-use Rattle.std.specs.Prelude.{◌≡◌, ℕ, ◌&&◌, Bool, nat_eq, List, Option, Some, None, MatchOption, Contains}
+use Rattle.std.specs.Prelude.{◌≡◌, ◌↔◌, ℕ, ◌&&◌, Bool, nat_eq, List, [], Option, Some, None, MatchOption, Contains, option_map, unwrap_or}
 use Rattle.std.specs.Option.{option_or}
+use Rattle.std.specs.Global.{Vec}
 use Rattle.std.specs.HashMap as table
 use Rattle.lido_base.specs.declared.kinds.Kind.{Kind}
 use Rattle.lido_base.specs.declared.value.ValueType.{ValueType}
@@ -10,6 +11,10 @@ use Rattle.symbol_attributes.specs.declared.facts.Facts.{Facts}
 use Rattle.symbol_attributes.specs.declared.facts.Said.{Said}
 use Rattle.symbol_attributes.specs.declared.facts.FactTable.{FactTable}
 use Rattle.symbol_attributes.specs.declared.facts.AttrTable.{AttrTable}
+use Rattle.symbol_attributes.specs.declared.rows.NamedRows.{NamedRows}
+use Rattle.symbol_attributes.specs.declared.rows.SaidTables.{SaidTables}
+use Rattle.kind_clashes.specs.declared.names.Names.{Names}
+use Rattle.kind_clashes.specs.Names.{IsSetOf}
 
 -- the one and, in what it doesn't say, the other
 abbrev pub combined : Facts → Facts → Facts
@@ -55,6 +60,23 @@ said s a f = record { symbol = record { 0 = s }; attribute = record { 0 = a }; f
 -- The table has of each attribute of each symbol what is said of it.
 abbrev pub IsTableOf : List Said → FactTable → Type 0
 IsTableOf list facts = (s a : ℕ) → AreSums (λ f. Contains list (said s a f)) (known facts s a)
+
+-- the attributes of symbol s that the rows have
+unfoldable pub row_of : NamedRows → ℕ → List ℕ
+row_of rows s = unwrap_or (option_map (λ (v : Vec ℕ). v.items) (table.get nat_eq rows.rows s)) []
+
+-- The rows have the attributes of each symbol of which something is said.
+abbrev pub AreRowsOf : List Said → NamedRows → Type 0
+AreRowsOf list rows = (s a : ℕ) → Contains (row_of rows s) a ↔ ((f : Facts) × Contains list (said s a f))
+
+-- what is said, by symbol and attribute
+pub record AreSaidTables (list : List Said) (tables : SaidTables) : Type 0 where
+  pub facts : IsTableOf list tables.facts
+  pub rows : AreRowsOf list tables.rows
+
+-- The set has the attributes of any of these symbols of which something is said.
+abbrev pub AreSaidOn : List Said → List ℕ → Names → Type 0
+AreSaidOn list symbols = IsSetOf (λ a. (s : ℕ) × Contains symbols s × ((f : Facts) × Contains list (said s a f)))
 
 -- what a declaration says
 abbrev pub declared_facts : Decl → Facts

@@ -11,9 +11,9 @@ use Rattle.lido_symbols.specs.Numbers.{AreNumbered, place_in}
 use Rattle.lido_symbols.specs.Uses.{attribute_uses}
 use Rattle.symbol_attributes.specs.declared.facts.Facts.{Facts}
 use Rattle.symbol_attributes.specs.declared.facts.Said.{Said}
-use Rattle.symbol_attributes.specs.declared.facts.FactTable.{FactTable}
+use Rattle.symbol_attributes.specs.declared.rows.SaidTables.{SaidTables}
 use Rattle.symbol_attributes.specs.declared.facts.AttrTable.{AttrTable}
-use Rattle.symbol_attributes.specs.Facts.{known_of, IsTableOf, IsAttrTableOf}
+use Rattle.symbol_attributes.specs.Facts.{known_of, AreSaidTables, IsAttrTableOf}
 use Rattle.symbol_attributes.specs.Said.{no_facts, AreSaid}
 
 module _ (spec : Spec) where
@@ -47,10 +47,10 @@ written_attribute a f g = record {
 }
 
 -- the tables have what the specification says of attributes
-pub record AreFactsOf (spec : Spec) (table : FactTable) (by_attr : AttrTable) : Type 0 where
+pub record AreFactsOf (spec : Spec) (tables : SaidTables) (by_attr : AttrTable) : Type 0 where
   pub list : List Said
   pub said : AreSaid spec list
-  pub table_of : IsTableOf list table
+  pub tables_of : AreSaidTables list tables
   pub attrs : IsAttrTableOf spec.attrs by_attr
 
 -- the symbol and the classes that it inherits

@@ -1,7 +1,7 @@
 //! What is said of attributes, by symbol and by attribute.
 ghost use Rattle.std.specs.Prelude.{◌≡◌, ℕ, None, Some, nat_eq, if◌then◌else◌, IfOk, OnOk};
 ghost use Rattle.lido_syntax.specs.Production.{name_of};
-ghost use Rattle.symbol_attributes.specs.Facts.{combined, added, joined as joined_facts, known, known_of, is_same_key, declared_facts, IsTableOf, IsAttrTableOf};
+ghost use Rattle.symbol_attributes.specs.Facts.{combined, added, joined as joined_facts, known, known_of, is_same_key, declared_facts, IsAttrTableOf};
 
 use lido_base::{Kind, Memory, StrId, ValueType};
 use lido_syntax::Decl;
@@ -78,7 +78,7 @@ pub struct FactTable {
 impl FactTable {
     /// The table without entries. It takes no memory.
     #[tactic(auto, unfolding(crate::specs::Facts::known))]
-    fn new(alloc: Global) -> FactTable
+    pub fn new(alloc: Global) -> FactTable
         ensures { (s a : ℕ) → known result s a ≡ None }
     {
         FactTable {
@@ -96,24 +96,13 @@ impl FactTable {
 
     /// Adds what is said.
     #[tactic(auto, unfolding(crate::specs::Facts::known))]
-    fn note(&mut self, said: Said) -> Result<(), Memory>
+    pub fn note(&mut self, said: Said) -> Result<(), Memory>
         ensures { OnOk result ((s a : ℕ) → known self.new s a
             ≡ (if is_same_key (said.symbol.0, said.attribute.0) (s, a) then Some (added (known self.old said.symbol.0 said.attribute.0) said.facts) else known self.old s a)) }
     {
         let facts = add(self.find(said.symbol.0, said.attribute.0), said.facts);
         self.facts.insert((said.symbol.0, said.attribute.0), facts)?;
         Ok(())
-    }
-
-    /// The table of what is said.
-    pub fn of(alloc: Global, list: &[Said]) -> Result<FactTable, Memory>
-        ensures { IfOk result (IsTableOf list.now) }
-    {
-        let mut table = FactTable::new(alloc);
-        for said in list {
-            table.note(*said)?;
-        }
-        Ok(table)
     }
 }
 

@@ -7,6 +7,7 @@ mod inheritance;
 mod laws;
 mod named;
 mod owned;
+mod rows;
 mod said;
 mod written;
 

@@ -8,15 +8,16 @@ ghost use Rattle.lido_symbols.specs.Uses.{attribute_uses};
 ghost use Rattle.kind_clashes.specs.Sets.{AreNameSets};
 ghost use Rattle.symbol_attributes.specs.declared.facts.Said.{Said as Saying};
 ghost use Rattle.symbol_attributes.specs.Inheritance.{AreNumberedIn, IsInheritance};
-ghost use Rattle.symbol_attributes.specs.Facts.{said, AreSums, IsTableOf};
+ghost use Rattle.symbol_attributes.specs.Facts.{said, AreSums, IsTableOf, AreSaidOn};
 ghost use Rattle.symbol_attributes.specs.Written.{AreAttributesOf, AreFactsOf, AreOwners, IsAttributeAt, known_by_attr, written_attribute};
 
 use crate::facts::{AttrTable, FactTable, Facts, joined};
 use crate::inheritance::Inheritance;
 use crate::named::named_attributes;
+use crate::rows::SaidTables;
 use crate::said::all_said;
 use flat_grammar::FlatAttr;
-use kind_clashes::NameSets;
+use kind_clashes::{NameSets, Names as Attributes};
 use lido_base::{Kind, List, Memory, StrId, ValueType};
 use lido_symbols::{Names, attribute_numbers};
 use lido_syntax::Spec;
@@ -94,16 +95,22 @@ fn written(attribute: u32, facts: Facts, by_attr: Facts) -> FlatAttr
     }
 }
 
-/// The attribute of that name that a symbol has, if it has it. (`owners` are the symbol and its classes.)
+/// The attribute of that name that a symbol has, if it has it. (`owners` are the symbol and its classes,
+/// and `known` the attributes of which something is said on them.)
 fn attribute_of(
-    table: &FactTable,
+    tables: &SaidTables,
     by_attr: &AttrTable,
     owners: &[u32],
+    known: &Attributes,
     attribute: u32,
 ) -> Option<FlatAttr>
-    ensures { (spec : Specification) (s : ℕ) → AreFactsOf spec table.now by_attr.now → AreOwners spec s owners.now → IsAttributeAt spec s attribute result }
+    ensures { (spec : Specification) (s : ℕ) (facts : AreFactsOf spec tables.now by_attr.now) → AreOwners spec s owners.now
+        → AreSaidOn facts.list owners.now known.now → IsAttributeAt spec s attribute result }
 {
-    match facts_on(table, owners, attribute) {
+    if !known.has(StrId(attribute)) {
+        return None;
+    }
+    match facts_on(&tables.facts, owners, attribute) {
         Some(facts) => Some(written(attribute, facts, facts_by_attr(by_attr, attribute))),
         None => None,
     }
@@ -122,17 +129,21 @@ fn push_attribute(attrs: &mut Vec<FlatAttr>, attr: Option<FlatAttr>) -> Result<(
 /// The attributes of a symbol, in the order of these names.
 fn attributes_in_order(
     alloc: Global,
-    table: &FactTable,
+    tables: &SaidTables,
     by_attr: &AttrTable,
     owners: &[u32],
     names: &[u32],
 ) -> Result<Vec<FlatAttr>, Memory>
-    ensures { IfOk result (λ attrs. (spec : Specification) (s : ℕ) → AreFactsOf spec table.now by_attr.now → AreOwners spec s owners.now
+    ensures { IfOk result (λ attrs. (spec : Specification) (s : ℕ) → AreFactsOf spec tables.now by_attr.now → AreOwners spec s owners.now
         → AreNumbered nat_eq (attribute_uses spec) names.now → AreAttributesOf spec s attrs.items) }
 {
+    let known = tables.attributes_on(alloc, owners)?;
     let mut attrs = Vec::new(alloc);
     for name in names {
-        push_attribute(&mut attrs, attribute_of(table, by_attr, owners, *name))?;
+        push_attribute(
+            &mut attrs,
+            attribute_of(tables, by_attr, owners, &known, *name),
+        )?;
     }
     Ok(attrs)
 }
@@ -140,20 +151,20 @@ fn attributes_in_order(
 /// The attributes of each of the symbols, in the order of these names.
 fn attributes_of_all(
     alloc: Global,
-    table: &FactTable,
+    tables: &SaidTables,
     by_attr: &AttrTable,
     inheritance: &Inheritance,
     numbers: &Names,
     names: &[u32],
 ) -> Result<Vec<List<FlatAttr>>, Memory>
-    ensures { IfOk result (λ lists. (spec : Specification) → AreFactsOf spec table.now by_attr.now → AreNumberedIn numbers.now spec.symbols
+    ensures { IfOk result (λ lists. (spec : Specification) → AreFactsOf spec tables.now by_attr.now → AreNumberedIn numbers.now spec.symbols
         → IsInheritance spec numbers.now inheritance.now → AreNumbered nat_eq (attribute_uses spec) names.now
         → AllZip (AreAttributesOf spec) numbers.now lists.items) }
 {
     let mut lists = Vec::new(alloc);
     for symbol in numbers.as_slice() {
         let owners = with_classes(alloc, numbers, inheritance, *symbol)?;
-        let attrs = attributes_in_order(alloc, table, by_attr, &owners, names)?;
+        let attrs = attributes_in_order(alloc, tables, by_attr, &owners, names)?;
         lists.push(List::from_vec(attrs))?;
     }
     Ok(lists)
@@ -176,12 +187,12 @@ pub fn written_attributes(
     let inheritance = Inheritance::of(alloc, spec, numbers)?;
     let named = named_attributes(alloc, spec, sets)?;
     let said = all_said(alloc, spec, sets, &named)?;
-    let table = FactTable::of(alloc, &said)?;
+    let tables = SaidTables::of(alloc, &said)?;
     let by_attr = AttrTable::of(alloc, spec.attrs.as_slice())?;
     let names = attribute_numbers(alloc, spec)?;
     let lists = attributes_of_all(
         alloc,
-        &table,
+        &tables,
         &by_attr,
         &inheritance,
         numbers,

@@ -6,4 +6,4 @@ use Rattle.symbol_attributes.proofs.written.attributes_in_order.Given as goal
 
 -- the attributes of the names so far
 abbrev pub invariant-loop-name : goal.invariant-loop-name
-invariant-loop-name l = (spec : Spec) (s : ℕ) → AreFactsOf spec l.table l.by_attr → AreOwners spec s l.owners → AreFirst spec s l.names l.name-index l.attrs.items
+invariant-loop-name l = (spec : Spec) (s : ℕ) → AreFactsOf spec l.tables l.by_attr → AreOwners spec s l.owners → AreFirst spec s l.names l.name-index l.attrs.items

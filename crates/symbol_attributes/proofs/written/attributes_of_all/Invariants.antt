@@ -10,5 +10,5 @@ use Rattle.symbol_attributes.proofs.written.attributes_of_all.Given as goal
 
 -- the lists of the symbols so far
 abbrev pub invariant-loop-symbol : goal.invariant-loop-symbol
-invariant-loop-symbol l = (spec : Spec) → AreFactsOf spec l.table l.by_attr → AreNumberedIn l.numbers spec.symbols → IsInheritance spec l.numbers l.inheritance → AreNumbered nat_eq (attribute_uses spec) l.names
+invariant-loop-symbol l = (spec : Spec) → AreFactsOf spec l.tables l.by_attr → AreNumberedIn l.numbers spec.symbols → IsInheritance spec l.numbers l.inheritance → AreNumbered nat_eq (attribute_uses spec) l.names
     → AllZip (AreAttributesOf spec) (take l.symbol-index l.symbol-items) l.lists.items

@@ -1,0 +1,5 @@
+pub mod Bearers
+pub mod Facts
+pub mod Kinds
+pub mod Numbered
+pub mod Twofold

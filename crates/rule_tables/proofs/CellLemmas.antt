@@ -26,61 +26,6 @@ use Rattle.rule_tables.specs.declared.tables.SymbolRow.{SymbolRow}
 
 -- ---- different symbols
 
--- a number that differs from x is among those that do exactly if it is among all
-contains-filter : (x k : ℕ) → nat_eq k x ≡ false → (ys : List ℕ) → contains k (filter (λ y. not (nat_eq x y)) ys) ≡ contains k ys
-contains-filter x k far [] = refl
-contains-filter x k far (y ∷ ys) = by (nat_eq x y) refl (nat_eq k y) refl (contains-filter x k far ys)
-  where
-    by : (b : Bool) → nat_eq x y ≡ b → (e : Bool) → nat_eq k y ≡ e → contains k (filter (λ z. not (nat_eq x z)) ys) ≡ contains k ys
-        → contains k (if not b then y ∷ filter (λ z. not (nat_eq x z)) ys else filter (λ z. not (nat_eq x z)) ys) ≡ (nat_eq k y || contains k ys)
-    by false f e g later = ap (λ r. nat_eq k y || r) later
-    by true f true g later = absurd (let same : k ≡ x = eqb-true k y g ∙ sym (eqb-true x y f) in let h = eq-eqb k x same in cc)
-    by true f false g later = later ∙ ap (λ b. b || contains k ys) (sym g)
-
-abbrev without : ℕ → List ℕ → List ℕ
-without x = filter (λ y. not (nat_eq x y))
-
--- one more number
-pub different-more : (xs : List ℕ) (k : ℕ) → different (xs ++ k ∷ []) ≡ (if contains k (different xs) then different xs else (different xs ++ k ∷ []))
-different-more [] k = refl
-different-more (x ∷ xs) k = ap (λ l. x ∷ without x l) (different-more xs k) ∙ by (nat_eq k x) refl (contains k (different xs)) refl
-  where
-    joined : without x (different xs ++ k ∷ []) ≡ without x (different xs) ++ without x (k ∷ [])
-    joined = filter-append (λ y. not (nat_eq x y)) (different xs) (k ∷ [])
-
-    alone : (b : Bool) → nat_eq x k ≡ b → without x (k ∷ []) ≡ (if b then [] else k ∷ [])
-    alone b f = ap (λ e. if not e then k ∷ [] else []) f ∙ turned b
-      where
-        turned : (e : Bool) → (if not e then k ∷ [] else []) ≡ (if e then [] else k ∷ [])
-        turned true = refl
-        turned false = refl
-
-    flipped : (b : Bool) → nat_eq k x ≡ b → nat_eq x k ≡ b
-    flipped true f = eq-eqb x k (sym (eqb-true k x f))
-    flipped false f = other (nat_eq x k) refl
-      where
-        other : (b : Bool) → nat_eq x k ≡ b → nat_eq x k ≡ false
-        other true g = absurd (let h = eq-eqb k x (sym (eqb-true x k g)) in cc)
-        other false g = g
-
-    same : nat_eq k x ≡ false → contains k (without x (different xs)) ≡ contains k (different xs)
-    same far = contains-filter x k far (different xs)
-
-    by : (b : Bool) → nat_eq k x ≡ b → (e : Bool) → contains k (different xs) ≡ e
-        → x ∷ without x (if e then different xs else (different xs ++ k ∷ [])) ≡ (if (b || contains k (without x (different xs))) then x ∷ without x (different xs) else (x ∷ (without x (different xs) ++ k ∷ [])))
-    by true f true g = refl
-    by true f false g = ap (λ l. x ∷ l) (joined ∙ ap (λ l. without x (different xs) ++ l) (alone true (flipped true f)) ∙ append-nil (without x (different xs)))
-    by false f true g = ap (λ b. if b then x ∷ without x (different xs) else (x ∷ (without x (different xs) ++ k ∷ []))) (sym (same f ∙ g))
-    by false f false g = ap (λ l. x ∷ l) (joined ∙ ap (λ l. without x (different xs) ++ l) (alone false (flipped false f)))
-        ∙ ap (λ b. if b then x ∷ without x (different xs) else (x ∷ (without x (different xs) ++ k ∷ []))) (sym (same f ∙ g))
-
-pub different-next : (xs : List StrId) (i : ℕ) (d : StrId) (names new : List ℕ) → i < length xs → names ≡ different (numbers (take i xs))
-    → new ≡ (if contains (get_or xs i d).0 names then names else (names ++ (get_or xs i d).0 ∷ [])) → new ≡ different (numbers (take (i + 1) xs))
-different-next xs i d names new h before e =
-    let x = (get_or xs i d).0 in
-    e ∙ ap (λ l. if contains x l then l else (l ++ x ∷ [])) before ∙ sym (different-more (numbers (take i xs)) x)
-    ∙ ap different (sym (map-append (λ (s : StrId). s.0) (take i xs) (get_or xs i d ∷ [])) ∙ ap numbers (sym (take_more xs i d h)))
-
 within-filter : (p : ℕ → Bool) (xs : List ℕ) (x : ℕ) → Contains (filter p xs) x → Contains xs x
 within-filter p [] x m = m
 within-filter p (y ∷ ys) x m = by (p y) m (within-filter p ys x)
@@ -91,7 +36,7 @@ within-filter p (y ∷ ys) x m = by (p y) m (within-filter p ys x)
 
 pub different-within : (xs : List ℕ) (x : ℕ) → Contains (different xs) x → Contains xs x
 different-within [] x m = m
-different-within (y ∷ ys) x m = elim (contains-cons y x (without y (different ys)) m) [
+different-within (y ∷ ys) x m = elim (contains-cons y x (filter (λ z. not (nat_eq y z)) (different ys)) m) [
   | inl e ↦ subst (Contains (y ∷ ys)) e (contains-here y ys)
   | inr k ↦ contains-later y x ys (different-within ys x (within-filter (λ z. not (nat_eq y z)) (different ys) x k))
 ]

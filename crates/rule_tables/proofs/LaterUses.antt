@@ -1,6 +1,6 @@
 -- More texts change no symbol of a specification whose names are ids of those that are there.
 use Rattle.std.specs.Prelude.{ℤ, Contains, map, flat_map, filter_map, not, is_some, if◌then◌else◌}
-use Rattle.std.proofs.Common.{◌≡◌, ℕ, ◌<◌, inl, inr, Bool, false, List, [], ◌∷◌, ◌++◌, length, Option, Some, None, refl, ap, sym, subst, ◌∙◌}
+use Rattle.std.proofs.Common.{◌≡◌, ℕ, ◌<◌, inl, inr, Bool, false, List, [], ◌∷◌, ◌++◌, length, Option, Some, None, refl, ap, sym, subst, ◌∙◌, arith}
 use Rattle.std.proofs.lemmas.List.Elements.{Contains-append_left, Contains-append_right}
 use Rattle.lido_base.specs.Environment.{Environment}
 use Rattle.lido_base.specs.Texts.{Gains}
@@ -23,7 +23,7 @@ use Rattle.lido_syntax.specs.Functions.{text_of}
 use Rattle.lido_symbols.specs.FromText.{all_names, names_of_rule, names_of_item}
 use Rattle.lido_symbols.specs.Uses.{computations, declared_names, attributes_of_target, attributes_in, element_name, production_names, symbols_in, symbols_of_target, symbols_of_computation, symbols_of_rule, symbols_of_item, symbol_uses, with_place, is_coordinate_of_rule, is_coordinate_of_symbol}
 use Rattle.rule_tables.specs.RuleNames.{HasNames, HasIds}
-use Rattle.rule_tables.proofs.LaterTexts.{later-text, no-more}
+use Rattle.rule_tables.proofs.LaterTexts.{later-text, no-more, no-fewer}
 
 flat-same : {X Y : Type 0} (f g : X → List Y) (xs : List X) → ((x : X) → Contains xs x → f x ≡ g x) → flat_map f xs ≡ flat_map g xs
 flat-same f g [] same = refl
@@ -135,3 +135,9 @@ module _ (spec : Spec) where
         let name : Contains (names_of_rule r) x = Contains-append_left (production_names r) (flat_map (symbols_of_computation bare) r.body) x (contains-later r.left x (filter_map element_name r.right) there) in
         subst (λ n. n < length texts) e (ids.names x (of-rule r x m name)));
   }
+
+pub names-later : (old new : List (List ℕ)) (rules : List RuleItem) → HasNames old rules → Gains old new → HasNames new rules
+names-later old new rules names gains = record {
+  called = λ r m. (let l = names.called r m in omega (arith, l, no-fewer old new gains));
+  right = λ r s m k. (let l = names.right r s m k in omega (arith, l, no-fewer old new gains));
+}

@@ -9,3 +9,4 @@ pub mod ClassLemmas
 pub mod LaterUses
 pub mod TableLemmas
 pub mod LimitLemmas
+pub mod AssemblyLemmas

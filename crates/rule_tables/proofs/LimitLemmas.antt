@@ -7,7 +7,6 @@ use Rattle.std.proofs.lemmas.List.Sums.{sum_by-cons}
 use Rattle.std.proofs.lemmas.Map.Made.{length-le_from_is_member, IsDistinct-from_AllPairs, is_member-Decides}
 use Rattle.lido_base.specs.Environment.{Environment}
 use Rattle.lido_base.specs.Faults.{HasNone}
-use Rattle.lido_base.specs.declared.ids.SymId.{SymId}
 use Rattle.lido_base.specs.declared.kinds.Many.TheVariants as many
 use Rattle.lido_base.proofs.FaultsLemmas.{at_place-none}
 use Rattle.lido_base.proofs.Lists.{contains-nil, contains-cons, contains-here, contains-later, map-contains}
@@ -18,8 +17,7 @@ use Rattle.lido_syntax.specs.Symbols.{IsRoot}
 use Rattle.lido_syntax.specs.Production.{right_of}
 use Rattle.lido_symbols.specs.Numbers.{AreNumbered, different}
 use Rattle.lido_symbols.specs.Uses.{symbol_uses}
-use Rattle.table_faults.specs.Faults.{table_faults, IsKnown, IsUnknown, nowhere, plain_count, symbol_count, symbols as too_many_symbols, rules as too_many_rules}
-use Rattle.rule_tables.specs.Roots.{IsRootOf}
+use Rattle.table_faults.specs.Faults.{table_faults, IsKnown, class, declared, in_production, IsUnknown, nowhere, plain_count, symbol_count, symbols as too_many_symbols, rules as too_many_rules}
 use Rattle.rule_tables.proofs.PlainLemmas.{list_count}
 
 keeps : (p : ℕ → Bool) (xs : List ℕ) (x : ℕ) → p x ≡ true → Contains xs x → Contains (filter p xs) x
@@ -91,11 +89,9 @@ module _ (spec : Spec) (env : Environment) where
         let not : 1024 < sum_by (plain_count spec env) spec.rules → ⊥ = λ h. none.1.1.1.1.1.1.1.1.0 (fault.TooMany many.Rules) (too_many_rules h, refl) in
         omega (arith, not, rules-below spec.rules)
 
-    -- a root was found
-    pub has-root : (symbols : List ℕ) (found : Option SymId) → IsRootOf spec symbols found → found ≡ None → ⊥
-    has-root symbols found is e =
-        let no : (s : ℕ) → ¬ IsRoot spec s = subst (IsRootOf spec symbols) e is in
-        none.1.1.0 (fault.RootNotOne 0) ([], record { each = λ s m. absurd (contains-nil s m); all = λ s r. absurd (no s r); once = λ i j d h below. absurd (omega (arith, below)) }, (λ e. absurd (omega (arith, e))), refl)
+    -- there is a root
+    pub some-root : ((s : ℕ) → ¬ IsRoot spec s) → ⊥
+    some-root lacks = none.1.1.0 (fault.RootNotOne 0) ([], record { each = λ s m. absurd (contains-nil s m); all = λ s r. absurd (lacks s r); once = λ i j d h below. absurd (omega (arith, below)) }, (λ e. absurd (omega (arith, e))), refl)
 
     module _ (symbols : List ℕ) (numbered : AreNumbered nat_eq (symbol_uses spec env) symbols) where
       pub few-symbols : length symbols + list_count spec.rules ≤ 512
@@ -107,3 +103,7 @@ module _ (spec : Spec) (env : Environment) where
       all-known s (k, h, e) unknown =
           let (at, used) = numbered.named k s h in
           at_place-none (λ at. fault.UnknownSymbol at) (IsUnknown spec env) none.0 at (nowhere s (subst (λ q. Contains (symbol_uses spec env) (at, q)) e used) unknown)
+
+-- what a name is hangs on no text
+pub other-known : (spec : Spec) (env later : Environment) (s : ℕ) → IsKnown spec env s → IsKnown spec later s
+other-known spec env later s known = elim known [ class is ↦ class is | declared ty is ↦ declared ty is | in_production r there m ↦ in_production r there m ]

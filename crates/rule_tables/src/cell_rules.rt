@@ -17,21 +17,9 @@ use crate::rule_shapes::symbol_id;
 use crate::written::next_cell;
 use flat_grammar::FlatRule;
 use lido_base::{List, Memory, StrId, Strings, SymId};
-use lido_symbols::{Names, right_symbols};
+use lido_symbols::{Names, different_symbols};
 use lido_syntax::RuleItem;
 use std::alloc::Global;
-
-/// The different symbols of a right side, at their first places.
-fn different_symbols(alloc: Global, rule: &RuleItem) -> Result<Names, Memory>
-    ensures { IfOk result (λ names. names ≡ different (right_of rule.now)) }
-{
-    let right = right_symbols(alloc, rule)?;
-    let mut names = Names::new(alloc);
-    for symbol in &right {
-        names.add(*symbol)?;
-    }
-    Ok(names)
-}
 
 /// The plain rule for an element: the element, and the next cell.
 fn link(

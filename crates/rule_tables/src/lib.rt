@@ -1,6 +1,7 @@
 //! The numbers and tables of a specification, and its flat grammar, as definitions.
 #![tactic(auto)]
 
+mod assembly;
 mod cell_names;
 mod cell_rules;
 mod cells;

@@ -8,8 +8,14 @@ use Rattle.rule_tables.specs.declared.extra.Slot.TheVariants as named
 use Rattle.chain_expand.specs.Attrs.{needs_at, chain_attrs}
 
 -- what it has in front and behind
+abbrev pub front_attr : ℕ → ℕ × Typed1 → ExtraAttr
+front_attr x d = record { sym = record { 0 = x }; slot = named.Front d.0; kind = kind.Inherited; ty = d.1.ty }
+
+abbrev pub behind_attr : ℕ → ℕ × Typed1 → ExtraAttr
+behind_attr x d = record { sym = record { 0 = x }; slot = named.Behind d.0; kind = kind.Synthesized; ty = d.1.ty }
+
 abbrev pub two : ℕ → ℕ × Typed1 → List ExtraAttr
-two x d = record { sym = record { 0 = x }; slot = named.Front d.0; kind = kind.Inherited; ty = d.1.ty } ∷ record { sym = record { 0 = x }; slot = named.Behind d.0; kind = kind.Synthesized; ty = d.1.ty } ∷ []
+two x d = front_attr x d ∷ behind_attr x d ∷ []
 
 pub chain-then : (needs : List (List Bool)) (x : ℕ) (d : ℕ × Typed1) → is_in (needs_at needs d.0) x ≡ true → two x d ≡ chain_attrs needs x d
 chain-then needs x d e = sym (ap (λ (b : Bool). if b then two x d else []) e)

@@ -1,3 +1,4 @@
 pub mod Walks
 pub mod Comps
 pub mod Attrs
+pub mod Needed

@@ -1,4 +1,5 @@
 pub mod OutputsLemmas
+pub mod CheckLemmas
 pub mod DoublesLemmas
 pub mod DoubleTargets
 pub mod DuplicatesLemmas

@@ -5,3 +5,4 @@ pub mod Unknown
 pub mod Roots
 pub mod Doubles
 pub mod Limits
+pub mod Phases

@@ -1,6 +1,7 @@
 //! The faults of the tables of a specification, and the first of them.
 #![tactic(auto)]
 
+mod check;
 mod doubles;
 mod duplicates;
 mod indices;

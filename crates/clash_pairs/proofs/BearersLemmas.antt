@@ -1,6 +1,5 @@
 -- The symbols and classes that have an attribute.
-use Rattle.std.specs.Prelude.{Contains, IsTrue, ◌⊎◌, ◌&&◌, true}
-use Rattle.std.specs.List.{list_any}
+use Rattle.std.specs.Prelude.{IsTrue, ◌⊎◌, true}
 use Rattle.std.proofs.Common.{◌≡◌, ℕ, inl, inr, List, refl, sym, subst}
 use Rattle.std.proofs.lemmas.Bool.{and_parts, and_from}
 use Rattle.std.proofs.lemmas.List.Folds.{Any-from_list_any, list_any_at}
@@ -8,12 +7,12 @@ use Rattle.lido_syntax.specs.declared.spec.Spec.{Spec}
 use Rattle.lido_syntax.specs.Attributes.{IsNamed, Has}
 use Rattle.kind_clashes.specs.declared.names.Names.{Names}
 use Rattle.kind_clashes.specs.Least.{Among}
-use Rattle.kind_clashes.specs.Names.{has, IsSetOf, HasMore}
+use Rattle.kind_clashes.specs.Names.{has, IsSetOf}
 use Rattle.symbol_attributes.specs.Inheritance.{number, is_heir, IsInheritance, AreNumberedIn}
 use Rattle.symbol_attributes.specs.Named.{AreNamed}
 use Rattle.symbol_attributes.specs.declared.inheritance.Inheritance.{Inheritance}
 use Rattle.symbol_attributes.specs.declared.named.SymbolAttribute.{SymbolAttribute}
-use Rattle.clash_pairs.specs.Bearers.{is_owning_class, has_owning_class, AreBearers}
+use Rattle.clash_pairs.specs.Bearers.{is_owning_class, has_owning_class}
 use Rattle.clash_pairs.proofs.NumberedLemmas.{heir-numbered, class-numbered}
 
 abbrev pub IsOwner : List SymbolAttribute → ℕ → Type 0

@@ -1,14 +1,13 @@
 -- What the text says of kinds and types, and the lists that have it.
 use Rattle.std.specs.Prelude.{Contains, IsTrue, ℤ, flat_map, map}
-use Rattle.std.proofs.Common.{◌≡◌, ℕ, Bool, true, false, if◌then◌else◌, ◌⊎◌, inl, inr, List, [], ◌∷◌, ◌++◌, Option, Some, None, refl, sym, ap, subst, ◌∙◌}
+use Rattle.std.proofs.Common.{◌≡◌, ℕ, Bool, true, false, if◌then◌else◌, inl, inr, List, [], ◌∷◌, Option, Some, None, refl, sym, ap, subst, ◌∙◌}
 use Rattle.std.proofs.lemmas.Bool.{both_ways, false_from_ne_true}
-use Rattle.std.proofs.lemmas.Option.{none-some, same_Some}
+use Rattle.std.proofs.lemmas.Option.{none-some}
 use Rattle.std.proofs.lemmas.List.Elements.{Contains-append_left, Contains-append_right, Contains-append_cases}
 use Rattle.lido_base.proofs.Lists.{contains-nil, contains-cons, contains-here, contains-map, map-contains, contains-flat, flat-contains}
 use Rattle.lido_base.proofs.TreeLemmas.{contains-test, test-contains}
 use Rattle.lido_base.specs.Tree.{contains}
 use Rattle.lido_base.specs.declared.kinds.Kind.{Kind}
-use Rattle.lido_base.specs.declared.kinds.Kind.TheVariants.{Synthesized, Inherited}
 use Rattle.lido_syntax.specs.declared.spec.Spec.{Spec}
 use Rattle.lido_syntax.specs.declared.spec.Name.{Name}
 use Rattle.lido_syntax.specs.declared.spec.Decl.{Decl}

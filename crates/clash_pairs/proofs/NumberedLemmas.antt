@@ -1,6 +1,6 @@
 -- Who has a number.
 use Rattle.std.specs.Prelude.{Contains, IsTrue, ℤ, nat_eq, ◌&&◌, flat_map, map}
-use Rattle.std.proofs.Common.{◌≡◌, ℕ, inl, inr, List, [], ◌∷◌, ◌++◌, Option, sym, ap, subst, eqb-true}
+use Rattle.std.proofs.Common.{◌≡◌, ℕ, inl, inr, List, [], ◌++◌, Option, sym, subst, eqb-true}
 use Rattle.std.proofs.lemmas.List.Elements.{Contains-append_left, Contains-append_right}
 use Rattle.std.proofs.lemmas.List.Folds.{Any-from_list_any}
 use Rattle.lido_base.specs.Environment.{Environment}

@@ -1,19 +1,17 @@
 -- Two kinds and two types of an attribute, from what is said on symbols.
-use Rattle.std.specs.Prelude.{Contains, IsTrue, ℤ, nat_eq, ◌||◌, ◌&&◌, flat_map, map}
-use Rattle.std.proofs.Common.{◌≡◌, ℕ, ◌<◌, ◌≤◌, Bool, true, false, if◌then◌else◌, ◌⊎◌, inl, inr, List, [], ◌∷◌, ◌++◌, Option, Some, None, refl, sym, ap, subst, ◌∙◌, arith, eqb-true, eq-eqb}
+use Rattle.std.specs.Prelude.{Contains, IsTrue, nat_eq, flat_map}
+use Rattle.std.proofs.Common.{◌≡◌, ℕ, ◌≤◌, Bool, true, false, if◌then◌else◌, ◌⊎◌, inl, inr, List, [], ◌∷◌, Option, Some, None, refl, sym, ap, subst, ◌∙◌, arith, eqb-true, eq-eqb}
 use Rattle.std.proofs.lemmas.Bool.{or_cases, or_left, or_right}
 use Rattle.std.proofs.lemmas.Option.{none-some, same_Some}
 use Rattle.std.proofs.lemmas.List.Elements.{Contains-append_left, Contains-append_right, Contains-append_cases}
 use Rattle.std.specs.Prelude.{slice_get}
 use Rattle.lido_base.specs.declared.kinds.Kind.{Kind}
-use Rattle.lido_base.specs.declared.kinds.Kind.TheVariants.{Synthesized, Inherited}
 use Rattle.lido_base.proofs.Lists.{contains-nil, contains-cons, contains-here, contains-map, map-contains, contains-flat, flat-contains}
 use Rattle.lido_syntax.specs.declared.spec.Spec.{Spec}
 use Rattle.lido_syntax.specs.declared.spec.Name.{Name}
 use Rattle.lido_syntax.specs.declared.spec.Decl.{Decl}
 use Rattle.lido_syntax.specs.declared.spec.Comp.{Comp}
 use Rattle.lido_syntax.specs.declared.spec.Typed1.{Typed1}
-use Rattle.lido_syntax.specs.declared.spec.SymbolItem.{SymbolItem}
 use Rattle.lido_syntax.specs.declared.spec.Place.{Place}
 use Rattle.lido_syntax.specs.declared.spec.Place.TheVariants as place
 use Rattle.lido_syntax.specs.Attributes.{uses, IsDeclared, InBody, OfClass}
@@ -23,11 +21,11 @@ use Rattle.lido_syntax.specs.Symbols.{IsChain}
 use Rattle.kind_clashes.specs.declared.names.Names.{Names}
 use Rattle.kind_clashes.specs.KindClash as clash
 use Rattle.kind_clashes.specs.KindClash.{SaysKind, IsTwofold}
-use Rattle.kind_clashes.specs.Least.{IsFirst, Among, earlier_of}
+use Rattle.kind_clashes.specs.Least.{IsFirst, earlier_of}
 use Rattle.kind_clashes.specs.Names.{IsSetOf}
 use Rattle.kind_clashes.specs.Types.{IsSecondType}
 use Rattle.kind_clashes.proofs.LeastLemmas.{first-same, first-join}
-use Rattle.symbol_attributes.specs.Inheritance.{number, is_heir, IsInheritance, AreNumberedIn}
+use Rattle.symbol_attributes.specs.Inheritance.{number, is_heir, IsInheritance}
 use Rattle.symbol_attributes.specs.declared.inheritance.Inheritance.{Inheritance}
 use Rattle.symbol_attributes.specs.Said.{kind_at}
 use Rattle.symbol_attributes.proofs.InheritanceLemmas.{number-there}
@@ -38,9 +36,9 @@ use Rattle.clash_pairs.specs.declared.pairs.Facts.{Facts}
 use Rattle.clash_pairs.specs.Facts.{kinds_of_text, types_of_items}
 use Rattle.clash_pairs.specs.Kinds.{IsSecondKind}
 use Rattle.clash_pairs.specs.Numbered.{AreAllNumbered}
-use Rattle.clash_pairs.specs.Twofold.{said_if_any, attr_kinds, typed_decl, attr_types, passes, kind_if_passed, type_if_passed, kinds_on, types_on, IsTwofoldOn, IsTwofoldOnAny}
+use Rattle.clash_pairs.specs.Twofold.{said_if_any, attr_kinds, typed_decl, attr_types, passes, kind_if_passed, type_if_passed, kinds_on, types_on, IsTwofoldOnAny}
 use Rattle.clash_pairs.proofs.NumberedLemmas.{item-numbered, heir-numbered}
-use Rattle.clash_pairs.proofs.FactsLemmas.{SaidOn, by_declaration, by_side, by_own, IsFactOn, HasFactOn, facts-to, facts-from, IsTypeOn, types-to, types-from}
+use Rattle.clash_pairs.proofs.FactsLemmas.{SaidOn, by_declaration, by_side, by_own, facts-to, facts-from, types-to, types-from}
 
 -- what stands in a list under a test
 in-if : {X : Type 0} (b : Bool) (x y : X) → Contains (if b then x ∷ [] else []) y → IsTrue b × (x ≡ y)

@@ -6,7 +6,7 @@ use tree_store::{Split, Trees};
 
 /// A grammar with a sound plan, and a tree that fits it, split into regions, with its texts and patterns.
 ///
-/// Contracts see the task of its parts, and every job keeps the facts of a task.
+/// Contracts see the task of its parts. Every job keeps the facts of a task, and its numbers are in the ranges of their types.
 #[derive(Drop)]
 pub struct Job {
     flat: Flat,
@@ -23,6 +23,7 @@ impl Model for Job {
     ghost use Rattle.flat_grammar.specs.contracts.flat.FlatExpr as expression;
     ghost use Rattle.tree_store.specs.Regions.{regions};
     ghost use Rattle.core_machine.specs.Core.{Task, IsTask};
+    ghost use Rattle.core_machine.specs.Limits.{AreInTheirTypes};
     ghost use Rattle.core_machine.specs.Jobs.{task_of};
 
     ghost Value = { Task };
@@ -32,7 +33,7 @@ impl Model for Job {
     ghost view = { λ j. task_of j.flat j.plan j.trees j.split j.strings j.patterns };
 
     ghost invariant = { λ j. let task = task_of j.flat j.plan j.trees j.split j.strings j.patterns in
-        IsTask task × (j.split.region_of ≡ regions task.flat task.nodes) };
+        IsTask task × (j.split.region_of ≡ regions task.flat task.nodes) × AreInTheirTypes task };
 }
 
 impl Job {
@@ -40,6 +41,7 @@ impl Job {
     ghost use Rattle.lido_base.specs.declared.ids.NodeId.{NodeId as Id};
     ghost use Rattle.tree_store.specs.Regions.{regions};
     ghost use Rattle.core_machine.specs.Core.{IsTask};
+    ghost use Rattle.core_machine.specs.Limits.{AreInTheirTypes};
     ghost use Rattle.core_machine.specs.Jobs.{task_of};
 
     /// The job of these parts.
@@ -53,6 +55,7 @@ impl Job {
     ) -> Job
         requires facts { IsTask (task_of flat plan trees split strings patterns) }
         requires regions { split.region_of ≡ regions trees.flat (map (λ (n : Id). n.0) split.nodes) }
+        requires numbers { AreInTheirTypes (task_of flat plan trees split strings patterns) }
         ensures { result ≡ task_of flat plan trees split strings patterns }
     {
         Job {
@@ -68,6 +71,13 @@ impl Job {
     /// Every job keeps the facts of a task. The call does nothing.
     pub fn facts(&self)
         ensures { IsTask self.now }
+    {
+        let _ = &self.flat;
+    }
+
+    /// The numbers of every job are those of their types. The call does nothing.
+    pub fn numbers(&self)
+        ensures { AreInTheirTypes self.now }
     {
         let _ = &self.flat;
     }
@@ -119,5 +129,32 @@ impl Job {
         ensures { result.now.list ≡ self.now.patterns }
     {
         &self.patterns
+    }
+
+    /// The job split in another way, and how it was split before.
+    pub fn resplit(self, split: Split) -> (Job, Split)
+        requires facts { IsTask (record self { nodes = map (λ (n : Id). n.0) split.nodes }) }
+        requires regions { split.region_of ≡ regions self.flat (map (λ (n : Id). n.0) split.nodes) }
+        ensures job { result.0 ≡ record self { nodes = map (λ (n : Id). n.0) split.nodes } }
+        ensures nodes { map (λ (n : Id). n.0) result.1.nodes ≡ self.nodes }
+        ensures regions { result.1.region_of ≡ regions self.flat self.nodes }
+    {
+        let Job {
+            flat,
+            plan,
+            trees,
+            split: before,
+            strings,
+            patterns,
+        } = self;
+        let job = Job {
+            flat,
+            plan,
+            trees,
+            split,
+            strings,
+            patterns,
+        };
+        (job, before)
     }
 }

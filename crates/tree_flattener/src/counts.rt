@@ -108,8 +108,8 @@ fn instances_by_rule(alloc: Global, flat: &Flat) -> Result<Vec<u64>, Memory>
     Ok(numbers)
 }
 
-/// The text cells of a node of each rule.
-fn cells_by_rule(alloc: Global, flat: &Flat) -> Result<Vec<u64>, Memory>
+/// The text cells of a node of each rule, or one more than the most that a tree may have where there are more. `Err` is want of memory.
+pub fn cells_by_rule(alloc: Global, flat: &Flat) -> Result<Vec<u64>, Memory>
     ensures { IfOk result (λ numbers. numbers.items ≡ map (λ (r : AnyRule). min (sum_by (λ (c : FlatComp). cells c.value) r.comps) 16777217) flat.now.rules) }
 {
     let mut numbers = Vec::new(alloc);

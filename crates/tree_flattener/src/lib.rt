@@ -9,4 +9,5 @@ pub mod laws;
 mod terminals;
 mod walk;
 
+pub use counts::cells_by_rule;
 pub use flatten_tree::flatten;

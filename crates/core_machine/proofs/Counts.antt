@@ -17,7 +17,7 @@ behind-once x xs once front back y e m = once (x ∷ front) back y (ap (λ l. x 
 first-once : {A : Type 0} (x : A) (xs : List A) → Once (x ∷ xs) → ¬ Contains xs x
 first-once x xs once m = let p = split-at xs x m in once (x ∷ p.0) p.1 x (ap (λ l. x ∷ l) p.2) (contains-first x p.0)
 
-either-part : {A : Type 0} (xs ys : List A) (y : A) → Contains (xs ++ ys) y → Contains xs y ⊎ Contains ys y
+pub either-part : {A : Type 0} (xs ys : List A) (y : A) → Contains (xs ++ ys) y → Contains xs y ⊎ Contains ys y
 either-part [] ys y m = inr m
 either-part (x ∷ xs) ys y m = go (contains-cons x y (xs ++ ys) m) (either-part xs ys y)
   where

@@ -37,7 +37,7 @@ pub some-holds : {A : Type 0} (o : Option A) (P : Type 0) (Q : A → Type 0) →
 some-holds None P Q m e = absurd (cc)
 some-holds (Some x) P Q m e = (x, m)
 
-range-push : (a n : ℕ) → range_with_len a (n + 1) ≡ range_with_len a n ++ (a + n) ∷ []
+pub range-push : (a n : ℕ) → range_with_len a (n + 1) ≡ range_with_len a n ++ (a + n) ∷ []
 range-push a n = let e : n + 1 ≡ suc n = omega arith in ap (range_with_len a) e ∙ go a n
   where
     go : (a n : ℕ) → range_with_len a (suc n) ≡ range_with_len a n ++ (a + n) ∷ []

@@ -25,3 +25,13 @@ pub mod Counts
 pub mod Cells
 pub mod LimitLemmas
 pub mod RangeLemmas
+pub mod SlotLemmas
+pub mod SiteLemmas
+pub mod Undivided
+pub mod RunLemmas
+pub mod RoomLemmas
+pub mod FaultLemmas
+pub mod EvaluationLemmas
+pub mod NoteLemmas
+pub mod FinishLemmas
+pub mod SizeLemmas

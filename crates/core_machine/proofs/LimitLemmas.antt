@@ -43,10 +43,10 @@ module _ (j : Task) (task : IsTask j) where
   once front back i e m = (in-order j task).once front back i e m
 
   -- what a node's rule gives
-  abbrev rule-gives : (FlatRule → ℕ) → ℕ → ℕ
+  abbrev pub rule-gives : (FlatRule → ℕ) → ℕ → ℕ
   rule-gives f n = elim (rule_of j n) [ None ↦ 0 | Some r ↦ f r ]
 
-  by-nodes : (f : FlatRule → ℕ) → sum_by (rule-gives f) (range_with_len 0 (length j.flat)) ≡ sum_by (λ (node : Node Value). at_node j.symbols j.rules j.flat f node.rule) j.flat
+  pub by-nodes : (f : FlatRule → ℕ) → sum_by (rule-gives f) (range_with_len 0 (length j.flat)) ≡ sum_by (λ (node : Node Value). at_node j.symbols j.rules j.flat f node.rule) j.flat
   by-nodes f = sum-places (λ (node : Node Value). at_node j.symbols j.rules j.flat f node.rule) (rule-gives f) 0 j.flat one
     where
       one : (k : ℕ) (node : Node Value) → slice_get j.flat k ≡ Some node → rule-gives f (0 + k) ≡ at_node j.symbols j.rules j.flat f node.rule
@@ -107,10 +107,10 @@ module _ (j : Task) (task : IsTask j) where
   cost None = 0
   cost (Some k) = cells k.2.value
 
-  abbrev as-computation : ℕ → FlatRule → FlatComp → Option Computation
+  abbrev pub as-computation : ℕ → FlatRule → FlatComp → Option Computation
   as-computation n r c = Some (n, r, c)
 
-  abbrev computations-of : ℕ → List (Option Computation)
+  abbrev pub computations-of : ℕ → List (Option Computation)
   computations-of n = elim (rule_of j n) [ None ↦ [] | Some r ↦ map (as-computation n r) r.comps ]
 
   among-computations : (i : Instance) → Contains (instances_in_order j) i → Contains (flat_map computations-of (range_with_len 0 (length j.flat))) (computation_of j i)
@@ -132,15 +132,21 @@ module _ (j : Task) (task : IsTask j) where
       let same : k.0 ≡ l.0 = held (sym k.1 ∙ e ∙ l.1) in
       a.gives ∙ ap (λ (c : Computation). instance_at j.flat c.0 c.2.goal) same ∙ sym b.gives
 
+  -- what the instances' computations add up to is at most what the nodes' do
+  pub sum-computations : (f : Option Computation → ℕ) → sum_by (λ (i : Instance). f (computation_of j i)) (instances_in_order j) ≤ sum_by (λ n. sum_by f (computations-of n)) (range_with_len 0 (length j.flat))
+  sum-computations f =
+      let a = sum-within (computation_of j) f (instances_in_order j) (flat_map computations-of (range_with_len 0 (length j.flat))) once apart among-computations in
+      let b = sum-flat f computations-of (range_with_len 0 (length j.flat)) in
+      omega (arith, a, b)
+
   -- what the whole order can deposit
   pub few-cells : sum_by (λ (i : Instance). cost (computation_of j i)) (instances_in_order j) ≤ most_text_cells
   few-cells =
-      let a = sum-within (computation_of j) cost (instances_in_order j) (flat_map computations-of (range_with_len 0 (length j.flat))) once apart among-computations in
-      let b = sum-flat cost computations-of (range_with_len 0 (length j.flat)) in
+      let a = sum-computations cost in
       let c = ap (λ (f : ℕ → ℕ). sum_by f (range_with_len 0 (length j.flat))) (λ x n. of-rule-cells n x) in
       let d = by-nodes (λ r. sum_by (λ (c : FlatComp). cells c.value) r.comps) in
       let e = task.limits.1 in
-      omega (arith, a, b, c, d, e)
+      omega (arith, a, c, d, e)
     where
       sums : (o : Option FlatRule) (n : ℕ) → sum_by cost (elim o [ None ↦ [] | Some r ↦ map (as-computation n r) r.comps ]) ≡ elim o [ None ↦ 0 | Some r ↦ sum_by (λ (c : FlatComp). cells c.value) r.comps ]
       sums None n = refl

@@ -65,7 +65,7 @@ module _ (env : Environment) (t : Tree Plain) (node_of : List ℕ) (f g : Instan
         let rest = values-same es (λ o m. a o (Contains-append_right (reads e) (reads_of_all es) o m)) in λ i. first i ∷ rest i
 
 -- of computations with different goals, two with one goal are one
-one-comp : (comps : List FlatComp) (c d : FlatComp) → AllPairs (λ (x y : FlatComp). x.goal ≡ y.goal → ⊥) comps → Contains comps c → Contains comps d → c.goal ≡ d.goal → c ≡ d
+pub one-comp : (comps : List FlatComp) (c d : FlatComp) → AllPairs (λ (x y : FlatComp). x.goal ≡ y.goal → ⊥) comps → Contains comps c → Contains comps d → c.goal ≡ d.goal → c ≡ d
 one-comp comps c d apart (p, h, e) (q, l, f) same = go (cases_order p q)
   where
     there : get_or comps q c ≡ d

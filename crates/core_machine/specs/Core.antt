@@ -6,7 +6,6 @@ use Rattle.lido_base.specs.declared.ids.SymId.{SymId}
 use Rattle.lido_base.specs.declared.ids.AttrId.{AttrId}
 use Rattle.lido_base.specs.declared.value.Value.{Value}
 use Rattle.lido_base.specs.declared.value.Value.TheVariants as value
-use Rattle.lido_base.specs.declared.value.Desc.{Desc}
 use Rattle.lido_base.specs.declared.value.Origin.{Origin}
 use Rattle.lido_base.specs.declared.value.ValueType.TheVariants as type
 use Rattle.lido_base.specs.declared.pattern.Pattern.{Pattern}
@@ -32,6 +31,7 @@ use Rattle.flat_grammar.specs.FlatTrees.{IsFlatTree}
 use Rattle.flat_grammar.specs.FlatAttribution.{IsFlatAttribution, IsLeastFault, IsFaultyAt}
 use Rattle.flat_grammar.specs.WholeOrder.{Instance, node_at, whole_order}
 use Rattle.flat_grammar.specs.Instances.{instance_at}
+pub use Rattle.core_machine.specs.declared.finished.Note.{Note}
 use Rattle.core_machine.specs.Instances.{IsInOrder}
 use Rattle.core_machine.specs.Machine.{Item, Machine, State, eval_of, put_of, final, UsesOne, IsNeverStuck, HasOneEnd}
 use Rattle.core_machine.specs.Evaluation.{evaluate, kept_value, HasConstants, IsNoText}
@@ -50,11 +50,6 @@ pub record Task : Type 0 where
   pub nodes : List ℕ
   pub texts : List (List ℕ)
   pub patterns : List Pattern
-
--- A note: the written node of a message, and its text.
-pub record Note : Type 0 where
-  pub node : ℕ
-  pub text : Desc
 
 -- a computation of a rule, at a node
 abbrev pub Computation : Type 0

@@ -1,0 +1,7 @@
+use Rattle.std.proofs.Common.{◌≤◌, length}
+use Rattle.core_machine.specs.Faults.{IsLeast, IsFaultBefore}
+use Rattle.core_machine.proofs.faults.least_fault.Given as goal
+
+-- the least origin of the nodes so far
+abbrev pub invariant-loop-node : goal.invariant-loop-node
+invariant-loop-node l = IsLeast (IsFaultBefore l.job l.values l.node 0) l.bad

@@ -1,11 +1,11 @@
 -- The classes that items of a symbol name behind INHERITS, by their numbers.
-use Rattle.std.specs.Prelude.{Contains, IsTrue, nat_eq, map, slice_get, ◌&&◌, ◌||◌}
+use Rattle.std.specs.Prelude.{Contains, IsTrue, nat_eq, map, slice_get, option_map, ◌&&◌, ◌||◌}
 use Rattle.std.specs.List.{list_any}
-use Rattle.std.proofs.Common.{◌≡◌, ℕ, ◌+◌, ◌<◌, ◌⊎◌, inl, inr, Bool, true, false, List, [], ◌∷◌, ◌++◌, length, get_or, Some, refl, ap, sym, subst, ◌∙◌, arith, true≢false, eqb-true, eq-eqb}
+use Rattle.std.proofs.Common.{◌≡◌, ℕ, zero, suc, ◌+◌, ◌<◌, ◌⊎◌, inl, inr, Bool, true, false, List, [], ◌∷◌, ◌++◌, length, get_or, Some, refl, ap, sym, subst, ◌∙◌, arith, true≢false, eqb-true, eq-eqb}
 use Rattle.std.proofs.lemmas.List.Elements.{Contains-append_left, Contains-append_right, Contains-append_cases, Contains-get_or}
 use Rattle.std.proofs.lemmas.List.Quantifiers.{all_pairs_push}
 use Rattle.std.proofs.lemmas.List.Folds.{Any-from_list_any, list_any_at}
-use Rattle.std.proofs.lemmas.Option.{same_Some, slice_get_within}
+use Rattle.std.proofs.lemmas.Option.{none-some, same_Some, slice_get_within}
 use Rattle.lido_base.specs.Tree.{contains}
 use Rattle.lido_base.specs.Environment.{Environment}
 use Rattle.lido_base.specs.declared.ids.SymId.{SymId}
@@ -18,14 +18,34 @@ use Rattle.lido_syntax.specs.Production.{name_of}
 use Rattle.lido_syntax.specs.Sets.{names_of, inherits_directly}
 use Rattle.kind_clashes.specs.declared.names.Names.{Names}
 use Rattle.kind_clashes.specs.Least.{Among}
-use Rattle.kind_clashes.specs.Names.{has, IsSetOf}
-use Rattle.rule_tables.specs.DirectClasses.{IsHandedBy, AreNumbersOf}
+use Rattle.kind_clashes.specs.Names.{has, IsSetOf, HasMore}
+use Rattle.kind_clashes.proofs.NamesLemmas.{more-same}
+use Rattle.rule_tables.proofs.CellLemmas.{different-within}
+use Rattle.rule_tables.proofs.LimitLemmas.{different-all}
+use Rattle.rule_tables.specs.DirectClasses.{inherited_by, IsHandedBy, AreNumbersOf}
 use Rattle.rule_tables.specs.TablesOf.{AreClassesOf}
 use Rattle.rule_tables.proofs.SlotLemmas.{number-at_place}
 
 pub any-name : (s : ℕ) (names : List Name) → list_any (λ (x : Name). nat_eq s (name_of x)) names ≡ contains s (map name_of names)
 any-name s [] = refl
 any-name s (x ∷ names) = ap (λ b. nat_eq s (name_of x) || b) (any-name s names)
+
+-- ---- names that are added
+
+pub more-ids : {a b : Names} (ids : List ℕ) → HasMore (Among (λ (x : ℕ) class. x ≡ class) ids) a b → HasMore (λ class. Contains ids class) a b
+more-ids ids more = more-same
+    (λ class h. subst (Contains ids) h.is h.among)
+    (λ class h. record { item = class; among = h; is = refl }) more
+
+pub more-handed : {a b : Names} (s : ℕ) (item : SymbolItem) (ids : List ℕ) → ids ≡ inherited_by item → contains s (names_of item) ≡ true → HasMore (λ class. Contains ids class) a b → HasMore (IsHandedBy s item) a b
+more-handed s item ids e about more = more-same
+    (λ class h. (about, different-within (map name_of item.inherits) class (subst (λ l. Contains l class) e h)))
+    (λ class h. subst (λ l. Contains l class) (sym e) (different-all (map name_of item.inherits) class h.1)) more
+
+pub mapped-at : {X Y : Type 0} (f : X → Y) (xs : List X) (ys : List Y) (i : ℕ) (x : X) (y : Y) → ys ≡ map f xs → slice_get xs i ≡ Some x → slice_get ys i ≡ Some y → y ≡ f x
+mapped-at f [] ys i x y e got is = absurd (none-some x got)
+mapped-at f (z ∷ xs) ys zero x y e got is = same_Some y (f x) (sym is ∙ ap (λ l. slice_get l 0) e ∙ ap (option_map f) got)
+mapped-at f (z ∷ xs) ys (suc i) x y e got is = mapped-at f xs (map f xs) i x y refl got (sym (ap (λ l. slice_get l (suc i)) e) ∙ is)
 
 -- ---- numbers, one after another
 

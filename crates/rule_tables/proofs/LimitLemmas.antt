@@ -31,7 +31,7 @@ keeps p (y ∷ ys) x is m = by (p y) refl (contains-cons y x ys m) (λ k. keeps 
     by false f (inr k) later = later k
 
 -- no number is lost
-different-all : (xs : List ℕ) (x : ℕ) → Contains xs x → Contains (different xs) x
+pub different-all : (xs : List ℕ) (x : ℕ) → Contains xs x → Contains (different xs) x
 different-all [] x m = m
 different-all (y ∷ ys) x m = by (nat_eq y x) refl (contains-cons y x ys m) (λ k. different-all ys x k)
   where

@@ -5,8 +5,13 @@ use Rattle.lido_base.specs.Tree.{contains}
 use Rattle.lido_syntax.specs.declared.spec.SymbolItem.{SymbolItem}
 use Rattle.lido_syntax.specs.Production.{name_of}
 use Rattle.lido_syntax.specs.Sets.{names_of}
+use Rattle.lido_symbols.specs.Numbers.{different}
 use Rattle.kind_clashes.specs.declared.names.Names.{Names}
 use Rattle.kind_clashes.specs.Names.{has}
+
+-- the different names of the item behind INHERITS
+abbrev pub inherited_by : SymbolItem → List ℕ
+inherited_by item = different (map name_of item.inherits)
 
 -- the item is about s, and names the class
 abbrev pub IsHandedBy : ℕ → SymbolItem → ℕ → Type 0

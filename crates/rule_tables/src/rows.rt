@@ -1,5 +1,5 @@
 //! The rows of the symbols.
-ghost use Rattle.std.specs.Prelude.{◌≡◌, ◌≤◌, ℕ, length, Contains, IfOk};
+ghost use Rattle.std.specs.Prelude.{◌≡◌, ◌≤◌, ℕ, map, length, Contains, IfOk};
 ghost use Rattle.std.specs.List.{AllZip};
 ghost use Rattle.lido_base.specs.Environment.{Environment};
 ghost use Rattle.lido_syntax.specs.declared.spec.Name.{Name as Named};
@@ -8,10 +8,11 @@ ghost use Rattle.lido_syntax.specs.Production.{name_of};
 ghost use Rattle.kind_clashes.specs.Sets.{AreNameSets};
 ghost use Rattle.table_faults.specs.Faults.{IsKnown};
 ghost use Rattle.symbol_attributes.specs.Written.{AreAttributesOf};
+ghost use Rattle.rule_tables.specs.DirectClasses.{inherited_by};
 ghost use Rattle.rule_tables.specs.SymbolKinds.{AreTermTypes};
 ghost use Rattle.rule_tables.specs.TablesOf.{IsRowOf};
 
-use crate::direct_classes::direct_classes;
+use crate::direct_classes::{direct_classes, inherited_names};
 use crate::symbol_kinds::{TermTypes, class_of};
 use crate::tables::SymbolRow;
 use flat_grammar::FlatAttr;
@@ -28,6 +29,7 @@ fn row(
     symbols: &Names,
     sets: &NameSets,
     types: &TermTypes,
+    inherited: &[Names],
     symbol: StrId,
     attrs: List<FlatAttr>,
 ) -> Result<SymbolRow, Memory>
@@ -35,6 +37,7 @@ fn row(
     requires sets { AreNameSets spec.now sets.now }
     requires types { AreTermTypes spec.now.terms types.now }
     requires numbered { (item : Item) (x : Named) → Contains spec.now.symbols item → Contains item.inherits x → Contains symbols.now (name_of x) }
+    requires inherited { inherited.now ≡ map inherited_by spec.now.symbols }
     requires attributes { AreAttributesOf spec.now symbol.0 attrs }
     ensures { IfOk result (λ row. (env : Environment) → ¬ ¬ IsKnown spec.now env symbol.0 → IsRowOf spec.now env symbols.now symbol.0 row) }
 {
@@ -42,7 +45,7 @@ fn row(
         name: symbol,
         class: class_of(sets, types, symbol),
         attrs,
-        classes: direct_classes(alloc, symbols, spec.symbols.as_slice(), symbol)?,
+        classes: direct_classes(alloc, symbols, spec.symbols.as_slice(), inherited, symbol)?,
     })
 }
 
@@ -64,10 +67,11 @@ pub fn rows(
     ensures { IfOk result (λ rows. (env : Environment) → ((s : ℕ) → Contains symbols.now s → ¬ ¬ IsKnown spec.now env s)
         → AllZip (IsRowOf spec.now env symbols.now) symbols.now rows.items) }
 {
+    let inherited = inherited_names(alloc, spec.symbols.as_slice())?;
     let mut rows = Vec::new(alloc);
     for attrs in attributes {
         let symbol = StrId(symbols.as_slice()[rows.len()]);
-        rows.push(row(alloc, spec, symbols, sets, types, symbol, attrs)?)?;
+        rows.push(row(alloc, spec, symbols, sets, types, &inherited, symbol, attrs)?)?;
     }
     Ok(rows)
 }

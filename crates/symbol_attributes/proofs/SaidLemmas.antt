@@ -145,7 +145,7 @@ module _ (spec : Spec) (chains : Names) (are : IsSetOf (IsChain spec) chains) wh
       let (c, mc, h) = contains-flat (told_by_comp chains item.names) item.body (said s a f) n in
       let (u, mu, by) = comp-to chains item.names (said s a f) c h in
       let (free, (kind, ek, ef, eb, (y, my, ey))) = free-to (has chains (name_of u.1)) u.1 item.names (kind_at u.0) s a f by in
-      subst (IsSaid spec s a) {x = told_facts kind} ef (told (body-tells s a c u.0 kind ek (item, mi, own-test item s y my ey, mc) (u.1, mu, eb, no-chain spec chains are u.1 a eb free)))
+      subst (IsSaid spec s a) {x = told_facts kind} ef (told {kind = kind} (body-tells s a c u.0 kind ek (item, mi, own-test item s y my ey, mc) (u.1, mu, eb, no-chain spec chains are u.1 a eb free)))
 
   in-body : (s a : ℕ) (c : Comp) (p : Place) (kind : Kind) → kind_at p ≡ Some kind → InBody spec s c → IsUse spec c p a → Contains (flat_map (told_by_item chains) spec.symbols) (said s a (told_facts kind))
   in-body s a c p kind ek (item, mi, own, mc) (b, mu, eb, free) =
@@ -159,7 +159,7 @@ module _ (spec : Spec) (chains : Names) (are : IsSetOf (IsChain spec) chains) wh
   side-to r c (place.Named x i) b s a f mr mc et m =
       let (free, (kind, ek, ef, eb, (y, my, ey))) = free-to (has chains (name_of b)) b (x ∷ []) (side_of (possible r x i)) s a f m in
       let ex : name_of x ≡ s = elim (contains-cons x y [] my) [ inl e ↦ ap name_of e ∙ ey | inr n ↦ absurd (contains-nil y n) ] in
-      subst (IsSaid spec s a) {x = told_facts kind} ef (told (side r c x i b mr mc et (side-is (possible r x i) kind ek) ex eb (no-chain spec chains are b a eb free)))
+      subst (IsSaid spec s a) {x = told_facts kind} ef (told {kind = kind} (side r c x i b mr mc et (side-is (possible r x i) kind ek) ex eb (no-chain spec chains are b a eb free)))
   side-to r c place.Synt b s a f mr mc et m = absurd (contains-nil (said s a f) m)
   side-to r c place.Inh b s a f mr mc et m = absurd (contains-nil (said s a f) m)
   side-to r c place.This b s a f mr mc et m = absurd (contains-nil (said s a f) m)

@@ -12,7 +12,8 @@ use Rattle.flat_grammar.specs.Rules.{attrs_of}
 use Rattle.flat_grammar.specs.WholeOrder.{Instance, order}
 use Rattle.flat_grammar.proofs.Lists.{held, contains-first, contains-nil, contains-slice_get}
 use Rattle.trials_of_grammar.proofs.Finite.{never, each-of, pairs-of, rule-is}
-use Rattle.core_machine.specs.Core.{Note, IsMessage, IsEarlier, Tells, AreNotes, machine}
+use Rattle.core_machine.specs.declared.finished.Note.{Note}
+use Rattle.core_machine.specs.Core.{IsMessage, IsEarlier, Tells, AreNotes, machine}
 use Rattle.core_machine.specs.Machine.{final}
 use Rattle.trials_of_jobs.specs.SplitList.{symbols, rules, list_rule, item_rule, cell_rule, end_rule, out_attribute, i_attribute, s_attribute, flat, job, noted_symbols, noted_job, the_note}
 

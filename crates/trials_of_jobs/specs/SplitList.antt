@@ -29,7 +29,8 @@ use Rattle.lido_base.specs.declared.pattern.Piece.TheVariants as piece
 use Rattle.string_librarian.specs.Rooms.{Deposit}
 use Rattle.flat_grammar.specs.WholeOrder.{Instance}
 use Rattle.core_machine.specs.Machine.{Item as Step, eval_of, put_of}
-use Rattle.core_machine.specs.Core.{Task, Note}
+use Rattle.core_machine.specs.declared.finished.Note.{Note}
+use Rattle.core_machine.specs.Core.{Task}
 
 abbrev pub attribute : ℕ → AttrId
 attribute a = record { 0 = a }

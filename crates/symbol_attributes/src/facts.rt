@@ -98,7 +98,8 @@ impl FactTable {
     #[tactic(auto, unfolding(crate::specs::Facts::known))]
     pub fn note(&mut self, said: Said) -> Result<(), Memory>
         ensures { OnOk result ((s a : ℕ) → known self.new s a
-            ≡ (if is_same_key (said.symbol.0, said.attribute.0) (s, a) then Some (added (known self.old said.symbol.0 said.attribute.0) said.facts) else known self.old s a)) }
+            ≡ (if is_same_key (said.symbol.0, said.attribute.0) (s, a)
+            then Some (added (known self.old said.symbol.0 said.attribute.0) said.facts) else known self.old s a)) }
     {
         let facts = add(self.find(said.symbol.0, said.attribute.0), said.facts);
         self.facts.insert((said.symbol.0, said.attribute.0), facts)?;
@@ -135,7 +136,8 @@ impl AttrTable {
     #[tactic(auto, unfolding(crate::specs::Facts::known_of))]
     fn note(&mut self, decl: Decl) -> Result<(), Memory>
         ensures { OnOk result ((a : ℕ) → known_of self.new a
-            ≡ (if nat_eq (name_of decl.attr) a then Some (added (known_of self.old (name_of decl.attr)) (declared_facts decl)) else known_of self.old a)) }
+            ≡ (if nat_eq (name_of decl.attr) a
+            then Some (added (known_of self.old (name_of decl.attr)) (declared_facts decl)) else known_of self.old a)) }
     {
         let facts = add(self.find(decl.attr.id.0), facts_of(decl));
         self.facts.insert(decl.attr.id.0, facts)?;

@@ -64,7 +64,8 @@ pub struct SaidTables {
 
 /// Adds the attribute of which this is said, unless something was said of it before.
 fn add_new(alloc: Global, rows: &mut NamedRows, facts: &FactTable, said: Said) -> Result<(), Memory>
-    ensures { OnOk result ((list : Sequence Saying) → IsTableOf list facts.now → AreRowsOf list rows.old → AreRowsOf (list ++ said ∷ []) rows.new) }
+    ensures { OnOk result ((list : Sequence Saying) → IsTableOf list facts.now → AreRowsOf list rows.old
+        → AreRowsOf (list ++ said ∷ []) rows.new) }
 {
     if facts.find(said.symbol.0, said.attribute.0).is_some() {
         return Ok(());

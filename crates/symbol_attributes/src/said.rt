@@ -318,7 +318,8 @@ fn push_targets(
     comps: &[Comp],
 ) -> Result<(), Memory>
     requires { IsProductionOf rule.now production.now }
-    ensures { OnOk result (list.new.items ≡ list.old.items ++ flat_map (λ (c : Computation). told_by_rule_target chains.now rule.now c.target) comps.now) }
+    ensures { OnOk result (list.new.items
+        ≡ list.old.items ++ flat_map (λ (c : Computation). told_by_rule_target chains.now rule.now c.target) comps.now) }
 {
     for comp in comps {
         push_rule_target(list, chains, production, rule, &comp.target)?;

@@ -40,8 +40,8 @@ fn with_classes(
     inheritance: &Inheritance,
     symbol: u32,
 ) -> Result<Vec<u32>, Memory>
-    ensures { IfOk result (λ list. (spec : Specification) → AreNumberedIn numbers.now spec.symbols → IsInheritance spec numbers.now inheritance.now
-        → AreOwners spec symbol list.items) }
+    ensures { IfOk result (λ list. (spec : Specification) → AreNumberedIn numbers.now spec.symbols
+        → IsInheritance spec numbers.now inheritance.now → AreOwners spec symbol list.items) }
 {
     let mut list = vec![in alloc; symbol]?;
     let x = numbers.number(StrId(symbol));

@@ -24,7 +24,7 @@ use Rattle.symbol_inherit.specs.Classes.{edges_of, graph_of, is_set, is_set_in, 
 use Rattle.symbol_inherit.specs.declared.classes.Classes.{Classes}
 use Rattle.symbol_inherit.proofs.RowLemmas.{one-number, number-named, past-named}
 
-mapped-place : {X Y : Type 0} (f : X → Y) (xs : List X) (i : ℕ) (x : X) → slice_get xs i ≡ Some x → slice_get (map f xs) i ≡ Some (f x)
+pub mapped-place : {X Y : Type 0} (f : X → Y) (xs : List X) (i : ℕ) (x : X) → slice_get xs i ≡ Some x → slice_get (map f xs) i ≡ Some (f x)
 mapped-place f [] i x e = absurd (none-some x e)
 mapped-place f (y ∷ xs) zero x e = ap (λ z. Some (f z)) (same_Some y x e)
 mapped-place f (y ∷ xs) (suc i) x e = mapped-place f xs i x e

@@ -18,3 +18,8 @@ pub mod MessageLemmas
 pub mod PlaceLemmas
 pub mod WholeLemmas
 pub mod PlainOfLemmas
+pub mod ClashLemmas
+pub mod AttributeLemmas
+pub mod MissingLemmas
+pub mod RootTests
+pub mod OutcomeLemmas

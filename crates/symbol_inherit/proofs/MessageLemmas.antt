@@ -1,8 +1,8 @@
 -- The output and the messages of a plain rule are those of its written rule.
 use Rattle.std.specs.Prelude.{Bool, true, false, cond, slice_get, filter, Contains}
-use Rattle.std.proofs.Common.{◌≡◌, ℕ, zero, suc, ◌+◌, ◌<◌, ◌≤◌, inl, inr, arith, List, [], ◌∷◌, ◌++◌, length, take, get_or, Option, Some, None, refl, sym, ap, ◌∙◌, subst, append-nil, add-one}
+use Rattle.std.proofs.Common.{◌≡◌, ℕ, zero, suc, ◌+◌, ◌<◌, ◌≤◌, arith, List, [], ◌∷◌, ◌++◌, length, take, get_or, Option, Some, None, refl, sym, ap, ◌∙◌, subst, append-nil, add-one}
 use Rattle.std.proofs.lemmas.Option.{slice_get_within}
-use Rattle.lido_base.proofs.Lists.{contains-cons, contains-here, contains-later, place-contains}
+use Rattle.lido_base.proofs.Lists.{place-contains}
 use Rattle.lido_syntax.specs.declared.spec.Comp.{Comp}
 use Rattle.lido_syntax.specs.declared.spec.RuleItem.{RuleItem}
 use Rattle.lido_syntax.specs.declared.spec.Target.{Target}
@@ -20,6 +20,7 @@ use Rattle.rule_tables.specs.ForcedOf.{IsGoalAs, kind_of, number_in}
 use Rattle.symbol_inherit.specs.Forces.{IsHeld}
 use Rattle.symbol_inherit.specs.Entries.{entries_of, AreUpTo, IsOccurrenceOf, IsOutOf}
 use Rattle.symbol_inherit.specs.declared.forced.Held.{Held}
+use Rattle.symbol_inherit.proofs.RowLemmas.{contains-filter}
 use Rattle.symbol_inherit.proofs.EntryLemmas.{held-more, in-force-here, goal-here, next-occ, next-kind, as-message}
 use Rattle.symbol_inherit.proofs.FilledLemmas.{late-entry}
 
@@ -37,14 +38,6 @@ filtered-place {X} p (x ∷ xs) (suc i) d w e = by (p x) (filtered-place p xs i 
         → slice_get (cond b (x ∷ filter p xs) (filter p xs)) (length (cond b (x ∷ filter p (take i xs)) (filter p (take i xs)))) ≡ Some (get_or xs i d)
     by true h = h
     by false h = h
-
-filtered-from : {X : Type 0} (p : X → Bool) (xs : List X) (x : X) → Contains (filter p xs) x → Contains xs x
-filtered-from p [] x m = m
-filtered-from {X} p (y ∷ xs) x m = by (p y) m (filtered-from p xs x)
-  where
-    by : (b : Bool) → Contains (cond b (y ∷ filter p xs) (filter p xs)) x → (Contains (filter p xs) x → Contains xs x) → Contains (y ∷ xs) x
-    by true m later = elim (contains-cons y x (filter p xs) m) [ inl h ↦ subst (λ z. Contains (y ∷ xs) z) h (contains-here y xs) | inr k ↦ contains-later y x xs (later k) ]
-    by false m later = contains-later y x xs (later m)
 
 pub message-there : (r : RuleItem) (body : List Comp) → r.body ≡ body → (i count : ℕ) (comp : Comp) → i < length body → comp ≡ get_or body i comp → count ≡ length (filter is_message (take i body))
     → is_message comp ≡ true → slice_get (messages_of r) count ≡ Some comp
@@ -159,7 +152,7 @@ module _ (t : Tables) (p : PlainRule) (r : RuleItem) (s x : ℕ) (single : IsSin
   message-held j comp at e held is = (
     by_rule,
     comp,
-    of_rule (occurs.stands, tt) (filtered-from is_message r.body comp (place-contains (messages_of r) j comp at), message-target t r j comp comp.target e at),
+    of_rule (occurs.stands, tt) (contains-filter is_message r.body comp (place-contains (messages_of r) j comp at), message-target t r j comp comp.target e at),
     ap (λ (h : Held). h.context) (sym is),
     ap (λ (h : Held). h.number) (sym is),
   )

@@ -23,12 +23,8 @@ use Rattle.rule_tables.specs.PlainRules.{Whole, number, written_rule, cell_rules
 use Rattle.rule_tables.specs.Forced.{IsWrittenAt}
 use Rattle.rule_tables.specs.TablesOf.{named_symbols, AreTablesOf, IsPlainOf}
 use Rattle.rule_tables.proofs.SlotLemmas.{number-at_place, enumerated-at, front-at}
+use Rattle.symbol_inherit.proofs.HeirLemmas.{mapped-place}
 use Rattle.symbol_inherit.specs.Places.{IsPlaceIn, AreRightPlaces, left_id, right_ids}
-
-pub mapped-at : {X Y : Type 0} (f : X → Y) (xs : List X) (i : ℕ) (x : X) → slice_get xs i ≡ Some x → slice_get (map f xs) i ≡ Some (f x)
-mapped-at f [] i x e = absurd (none-some x e)
-mapped-at f (y ∷ xs) zero x e = ap (λ z. Some (f z)) (same_Some y x e)
-mapped-at f (y ∷ xs) (suc i) x e = mapped-at f xs i x e
 
 pub mapped-back : {X Y : Type 0} (f : X → Y) (xs : List X) (i : ℕ) (y : Y) → slice_get (map f xs) i ≡ Some y → (x : X) × (slice_get xs i ≡ Some x) × (f x ≡ y)
 mapped-back f [] i y e = absurd (none-some y e)
@@ -87,7 +83,7 @@ module _ (t : Tables) (env : Environment) (is : AreTablesOf env t) where
 
     pub plain-at : slice_get (plain_rules t.spec symbols) i ≡ Some (written_rule t.spec symbols (i, r))
     plain-at = front-at (map (written_rule t.spec symbols) (enumerated 0 t.spec.rules)) (flat_map (cell_rules t.spec symbols) (enumerated 0 t.spec.rules)) i (written_rule t.spec symbols (i, r))
-        (mapped-at (written_rule t.spec symbols) (enumerated 0 t.spec.rules) i (i, r) at-number)
+        (mapped-place (written_rule t.spec symbols) (enumerated 0 t.spec.rules) i (i, r) at-number)
 
     -- the left side
     pub left-number : (left_id (slice_get t.plain i)).0 ≡ number t.spec symbols (left_of r)
@@ -112,7 +108,7 @@ module _ (t : Tables) (env : Environment) (is : AreTablesOf env t) where
         → (s : ℕ) × (slice_get (right_of r) k ≡ Some s) × (number t.spec symbols s ≡ x.0) × (slice_get symbols x.0 ≡ Some s)
     right-at k x e =
         let (s, f, n) = mapped-back (number t.spec symbols) (right_of r) k x.0
-        (ap (λ l. slice_get l k) (sym right-numbers) ∙ mapped-at (λ (s : SymId). s.0) (right_ids (slice_get t.shapes i)) k x e) in
+        (ap (λ l. slice_get l k) (sym right-numbers) ∙ mapped-place (λ (s : SymId). s.0) (right_ids (slice_get t.shapes i)) k x e) in
         (s, f, n, ap (slice_get symbols) (sym n) ∙ symbol-number r among s (contains-later (left_of r) s (right_of r) (place-contains (right_of r) k s f)))
 
     pub right-long : length (right_ids (slice_get t.shapes i)) ≡ length (right_of r)
@@ -120,6 +116,7 @@ module _ (t : Tables) (env : Environment) (is : AreTablesOf env t) where
 
     pub right-places : AreRightPlaces t r i (right_ids (slice_get t.shapes i))
     right-places = record {
+      of_rule = of;
       each = λ k x e. let (s, f, n, g) = right-at k x e in
           let written : IsWrittenAt r Whole (k + 1) s = subst (λ o. IsWrittenAt r Whole o s) (sym (add-one k)) f in
           (s, record { of_rule = of; written = written; stands = written-stands r (k + 1) s written; number = g });

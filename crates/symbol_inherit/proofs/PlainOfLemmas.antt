@@ -1,5 +1,5 @@
 -- Which goals the plain rules have, by their right sides.
-use Rattle.std.specs.Prelude.{Bool, true, false, not, cond, MatchBool, IsTrue, if◌then◌else◌, nat_eq, filter, flat_map, slice_get, Contains}
+use Rattle.std.specs.Prelude.{Bool, true, false, MatchBool, IsTrue, if◌then◌else◌, flat_map, slice_get, Contains}
 use Rattle.std.proofs.Common.{◌≡◌, ℕ, zero, suc, ◌+◌, ◌-◌, ◌<◌, ◌≤◌, inl, inr, arith, List, [], ◌∷◌, ◌++◌, length, take, map, Some, refl, sym, ap, ◌∙◌, subst, add-one}
 use Rattle.std.specs.List.{AllZip}
 use Rattle.std.proofs.lemmas.Option.{none-some, same_Some, slice_get_within, get_or_from_slice_get}
@@ -21,23 +21,10 @@ use Rattle.rule_tables.specs.TablesOf.{named_symbols, AreTablesOf, IsPlainOf}
 use Rattle.rule_tables.proofs.PlainLemmas.{zip-append}
 use Rattle.symbol_inherit.specs.Entries.{IsOccurrenceOf, IsRuleWith}
 use Rattle.symbol_inherit.specs.CellRules.{IsCellRule, link, end}
+use Rattle.rule_tables.proofs.CellLemmas.{different-within}
 use Rattle.symbol_inherit.proofs.RowLemmas.{enumerated-rule}
-use Rattle.symbol_inherit.proofs.PlaceLemmas.{mapped-at, mapped-back, symbol-number, written-stands, plain-at}
-
-filtered-from : {X : Type 0} (p : X → Bool) (xs : List X) (x : X) → Contains (filter p xs) x → Contains xs x
-filtered-from p [] x m = m
-filtered-from {X} p (y ∷ xs) x m = by (p y) m (filtered-from p xs x)
-  where
-    by : (b : Bool) → Contains (cond b (y ∷ filter p xs) (filter p xs)) x → (Contains (filter p xs) x → Contains xs x) → Contains (y ∷ xs) x
-    by true m later = elim (contains-cons y x (filter p xs) m) [ inl h ↦ subst (λ z. Contains (y ∷ xs) z) h (contains-here y xs) | inr k ↦ contains-later y x xs (later k) ]
-    by false m later = contains-later y x xs (later m)
-
-different-from : (xs : List ℕ) (x : ℕ) → Contains (different xs) x → Contains xs x
-different-from [] x m = m
-different-from (y ∷ xs) x m = elim (contains-cons y x (filter (λ z. not (nat_eq y z)) (different xs)) m) [
-  | inl h ↦ subst (λ z. Contains (y ∷ xs) z) h (contains-here y xs)
-  | inr k ↦ contains-later y x xs (different-from xs x (filtered-from (λ z. not (nat_eq y z)) (different xs) x k))
-]
+use Rattle.symbol_inherit.proofs.HeirLemmas.{mapped-place}
+use Rattle.symbol_inherit.proofs.PlaceLemmas.{mapped-back, symbol-number, written-stands, plain-at}
 
 behind-place : {X : Type 0} (xs ys : List X) (k : ℕ) (x : X) → slice_get (xs ++ ys) k ≡ Some x → length xs ≤ k → Contains ys x
 behind-place [] ys k x e l = place-contains ys k x e
@@ -54,7 +41,7 @@ module _ (t : Tables) (env : Environment) (is : AreTablesOf env t) where
 
   module _ (p : PlainRule) (r : RuleItem) (of : slice_get t.spec.rules p.rule ≡ Some r) (flat : FlatRule) (left : flat.left.0 ≡ p.left) (right : map (λ (s : SymId). s.0) flat.right ≡ p.right) where
     right-symbol : (k : ℕ) (x : SymId) → slice_get flat.right k ≡ Some x → symbol_at p (suc k) ≡ Some x.0
-    right-symbol k x e = ap (λ l. slice_get l k) (sym right) ∙ mapped-at (λ (s : SymId). s.0) flat.right k x e
+    right-symbol k x e = ap (λ l. slice_get l k) (sym right) ∙ mapped-place (λ (s : SymId). s.0) flat.right k x e
 
     -- that of a written rule
     module _ (its_left : p.left ≡ number t.spec symbols (left_of r)) where
@@ -183,7 +170,7 @@ module _ (t : Tables) (env : Environment) (is : AreTablesOf env t) where
 
         linked : (i : ℕ) (r : RuleItem) → Contains (enumerated 0 t.spec.rules) (let z : ℕ × RuleItem = (i, r) in z) → r.list ≡ true → (s : ℕ) → Contains (different (right_of r)) s
             → links i s ≡ p → IsCellRule t p flat.right
-        linked i r among e s m same = link-rule p r (ap (λ (p : PlainRule). slice_get t.spec.rules p.rule) (sym same) ∙ its-rule i r among) flat its-plain.left its-plain.right s e (different-from (right_of r) s m)
+        linked i r among e s m same = link-rule p r (ap (λ (p : PlainRule). slice_get t.spec.rules p.rule) (sym same) ∙ its-rule i r among) flat its-plain.left its-plain.right s e (different-within (right_of r) s m)
             (ap (λ (p : PlainRule). p.role) (sym same)) (cell t.spec symbols i) (ap (λ (p : PlainRule). p.right) (sym same))
 
         ended : (i : ℕ) (r : RuleItem) → Contains (enumerated 0 t.spec.rules) (let z : ℕ × RuleItem = (i, r) in z)

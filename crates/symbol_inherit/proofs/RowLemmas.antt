@@ -25,7 +25,7 @@ read-at xs i x d e = same_Some _ _ (sym (slice_get-get_or xs i d (slice_get_with
 pub pair-at : {X : Type 0} (R : X → X → Type 0) (xs : List X) (i j : ℕ) (x y : X) → AllPairs R xs → slice_get xs i ≡ Some x → slice_get xs j ≡ Some y → i < j → R x y
 pair-at R xs i j x y all e f h = subst (λ a. R a y) (read-at xs i x x e) (subst (λ b. R (slice_index_or xs i x) b) (read-at xs j y x f) (all i j x h (slice_get_within xs j y f)))
 
-contains-filter : {X : Type 0} (p : X → Bool) (xs : List X) (x : X) → Contains (filter p xs) x → Contains xs x
+pub contains-filter : {X : Type 0} (p : X → Bool) (xs : List X) (x : X) → Contains (filter p xs) x → Contains xs x
 contains-filter p [] x m = m
 contains-filter {X} p (y ∷ xs) x m = by (p y) refl (contains-filter p xs x)
   where

@@ -11,3 +11,6 @@ pub mod BySymbols
 pub mod Entries
 pub mod Places
 pub mod CellRules
+pub mod Clashes
+pub mod Missing
+pub mod Later

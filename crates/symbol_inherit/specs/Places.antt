@@ -19,6 +19,7 @@ pub record IsPlaceIn (t : Tables) (r : RuleItem) (i o s x : ℕ) : Type 0 where
 
 -- the symbols of a right side, and no more
 pub record AreRightPlaces (t : Tables) (r : RuleItem) (i : ℕ) (right : List SymId) : Type 0 where
+  pub of_rule : slice_get t.spec.rules i ≡ Some r
   pub each : (k : ℕ) (x : SymId) → slice_get right k ≡ Some x → (s : ℕ) × IsPlaceIn t r i (k + 1) s x.0
   pub all : (k s : ℕ) → slice_get (right_of r) k ≡ Some s → k < length right
 

@@ -144,7 +144,7 @@ pub fn push_right_side(
 }
 
 /// How a chain is given a value, at its start or behind the left side.
-fn chain_way(is_behind: bool) -> Way
+pub fn chain_way(is_behind: bool) -> Way
     ensures { result ≡ way_of_chain is_behind }
 {
     if is_behind { Way::Behind } else { Way::Start }

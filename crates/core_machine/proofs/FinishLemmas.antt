@@ -24,6 +24,8 @@ use Rattle.core_machine.specs.Notes.{instance_of, note_of, IsEntry, AreAllEntrie
 use Rattle.core_machine.specs.Runs.{AreFinal}
 use Rattle.core_machine.specs.Whole.{undivided}
 use Rattle.core_machine.proofs.Jobs.{grown}
+use Rattle.core_machine.proofs.SiteLemmas.{attributes-count}
+use Rattle.core_machine.proofs.SlotLemmas.{place-inside}
 use Rattle.core_machine.proofs.FaultLemmas.{least-shown}
 
 pairs-map : {A B : Type 0} (f : A → B) (R : B → B → Type 0) (xs : List A) → A → AllPairs (λ x y. R (f x) (f y)) xs → AllPairs R (map f xs)
@@ -54,6 +56,16 @@ module _ (j : Task) (task : IsTask j) where
 
   pub root-attributes : (xs : List FlatAttr) → ((r : FlatRule) → HasRule j.rules j.flat 0 r → xs ≡ attrs_of j.symbols r.left) → xs ≡ attrs_of j.symbols j.root
   root-attributes xs h = let r = (grown j task).root_node in h r.0 r.1 ∙ ap (attrs_of j.symbols) r.2
+
+  -- the place of the root's last attribute
+  pub root-place : (xs : List FlatAttr) → ((r : FlatRule) → HasRule j.rules j.flat 0 r → xs ≡ attrs_of j.symbols r.left) → (0 < length xs) × (length xs - 1 ≡ out j) × (length xs - 1 < offset j (length j.flat))
+  root-place xs h =
+      let e = ap length (root-attributes xs h) in
+      let f = out-inside (length xs) e in
+      let n = (grown j task).tree.has_root in
+      let w = attributes-count j task 0 xs n h in
+      let p = place-inside j task 0 (length xs - 1) n (omega (arith, f, w)) in
+      (f, omega (arith, e), omega (arith, p.0))
 
   module _ (values : List Value) (rooms : List RoomState) (last : AreFinal j values rooms) where
     told : (e : Entry) → IsEntry j values e → Tells j (final (machine j)) (instance_of e) (note_of e)

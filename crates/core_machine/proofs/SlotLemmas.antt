@@ -56,6 +56,13 @@ module _ (j : Task) where
   pub begin-read : (begins : List ℕ) → begins ≡ all_offsets j → (n : ℕ) → n < length j.flat → get_or begins n 0 ≡ offset j n
   begin-read begins e n h = ap (λ l. get_or l n 0) e ∙ offset-read n (omega (arith, h))
 
+  -- the entry behind the last node
+  pub end-read : (begins : List ℕ) → begins ≡ all_offsets j → (n : ℕ) → n ≡ length j.flat → get_or begins n 0 ≡ offset j (length j.flat)
+  end-read begins e n same = ap (λ l. get_or l n 0) e ∙ offset-read n (omega (arith, same)) ∙ ap (offset j) same
+
+  pub end-inside : (begins : List ℕ) → begins ≡ all_offsets j → (n : ℕ) → n ≡ length j.flat → n < length begins
+  end-inside begins e n same = let a = ap length e in let b = offset-count in omega (arith, a, b, same)
+
   pub begin-inside : (begins : List ℕ) → begins ≡ all_offsets j → (n : ℕ) → n < length j.flat → n < length begins
   begin-inside begins e n h = let a = ap length e in let b = offset-count in omega (arith, a, b, h)
 

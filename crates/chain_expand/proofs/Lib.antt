@@ -3,3 +3,7 @@ pub mod CompLemmas
 pub mod AttrLemmas
 pub mod TermLemmas
 pub mod OrderLemmas
+pub mod ExtraLemmas
+pub mod ShareLemmas
+pub mod ExpandLemmas
+pub mod FaultLemmas

@@ -45,7 +45,7 @@ find-none {X} test (y ∷ ys) e x m h = by (test y) refl e (contains-cons y x ys
     by false is e (inl same) later = let wrong : false ≡ true = sym is ∙ ap test same ∙ h in cc
     by false is e (inr k) later = later e k
 
-read-at : {X : Type 0} (xs : List X) (i : ℕ) (x d : X) → slice_get xs i ≡ Some x → slice_index_or xs i d ≡ x
+pub read-at : {X : Type 0} (xs : List X) (i : ℕ) (x d : X) → slice_get xs i ≡ Some x → slice_index_or xs i d ≡ x
 read-at xs i x d e = same_Some _ _ (sym (slice_get-get_or xs i d (slice_get_within xs i x e)) ∙ e)
 
 pub pair-at : {X : Type 0} (R : X → X → Type 0) (xs : List X) (i j : ℕ) (x y : X) → AllPairs R xs → slice_get xs i ≡ Some x → slice_get xs j ≡ Some y → i < j → R x y
@@ -194,7 +194,7 @@ module _ (t : Rows) (i c : ℕ) (d : Typed1) (declared : slice_get t.spec.chains
     abbrev as_behind : Option Force → Option ℕ → Term
     as_behind o l = elim l [ None ↦ elim o [ Some f ↦ Copied f.holder f.comp | None ↦ Read 0 (Front c) ] | Some j ↦ Read j (Behind c) ]
 
-    source-term : (o : Option Force) (l : Option ℕ) → ((j : ℕ) → l ≡ Some j → (x : ℕ) × (symbol_at p j ≡ Some x)) → IsTermAs t p (term_of i (source_of (comp_number o) l)) (as_behind o l)
+    pub source-term : (o : Option Force) (l : Option ℕ) → ((j : ℕ) → l ≡ Some j → (x : ℕ) × (symbol_at p j ≡ Some x)) → IsTermAs t p (term_of i (source_of (comp_number o) l)) (as_behind o l)
     source-term o (Some j) there = let s = there j refl in (refl, (s.0, s.1, (d, declared, called)))
     source-term (Some f) None there = refl
     source-term None None there = (refl, (p.left, refl, (d, declared, called)))
@@ -203,27 +203,27 @@ module _ (t : Rows) (i c : ℕ) (d : Typed1) (declared : slice_get t.spec.chains
     abbrev as_left : Bool → Option Force → Option Force → Option ℕ → Term
     as_left inner a o l = elim a [ Some f ↦ Copied f.holder f.comp | None ↦ if not inner || is_some o then Read 0 (Front c) else as_behind o l ]
 
-    left-term : (inner : Bool) (a o : Option Force) (l : Option ℕ) → ((j : ℕ) → l ≡ Some j → (x : ℕ) × (symbol_at p j ≡ Some x))
+    pub left-term : (inner : Bool) (a o : Option Force) (l : Option ℕ) → ((j : ℕ) → l ≡ Some j → (x : ℕ) × (symbol_at p j ≡ Some x))
         → IsTermAs t p (term_of i (behind_source inner (comp_number o) (comp_number a) l)) (as_left inner a o l)
     left-term inner (Some f) o l there = refl
     left-term false None o l there = (refl, (p.left, refl, (d, declared, called)))
     left-term true None (Some f) l there = (refl, (p.left, refl, (d, declared, called)))
     left-term true None None l there = source-term None l there
 
-last-in : (xs : List ℕ) (j : ℕ) → last_of xs ≡ Some j → Contains xs j
+pub last-in : (xs : List ℕ) (j : ℕ) → last_of xs ≡ Some j → Contains xs j
 last-in [] j e = absurd (none-some _ e)
 last-in (k ∷ []) j e = subst (λ z. Contains (k ∷ []) z) (same_Some _ _ e) (contains-here k [])
 last-in (k ∷ l ∷ ks) j e = contains-later k j (l ∷ ks) (last-in (l ∷ ks) j e)
 
 -- these places are those of children
-places-at : (test : ℕ → Bool) (p : PlainRule) (j : ℕ) → Contains (places test p) j → (x : ℕ) × (symbol_at p j ≡ Some x)
+pub places-at : (test : ℕ → Bool) (p : PlainRule) (j : ℕ) → Contains (places test p) j → (x : ℕ) × (symbol_at p j ≡ Some x)
 places-at test p j m =
     let (z, among, same) = contains-map (λ (x : ℕ × ℕ). x.0) (filter (λ (x : ℕ × ℕ). test x.1) (enumerated 1 p.right)) j m in
     let (k, number, at) = enumerated-place 1 z.0 z.1 p.right (filter-part (λ (x : ℕ × ℕ). test x.1) (enumerated 1 p.right) z among) in
     let e : j ≡ suc k = sym same ∙ number ∙ (omega arith) in
     (z.1, ap (symbol_at p) e ∙ at)
 
-needing-same : (row : List Bool) (right : List SymId) (p : PlainRule) (test : ℕ → Bool) → map (λ (s : SymId). s.0) right ≡ p.right → ((x : ℕ) → is_in row x ≡ test x) → needing row right ≡ places test p
+pub needing-same : (row : List Bool) (right : List SymId) (p : PlainRule) (test : ℕ → Bool) → map (λ (s : SymId). s.0) right ≡ p.right → ((x : ℕ) → is_in row x ≡ test x) → needing row right ≡ places test p
 needing-same row right p test same agree =
     ap (λ (r : List ℕ). map (λ (x : ℕ × ℕ). x.0) (filter (λ (x : ℕ × ℕ). is_in row x.1) (enumerated 1 r))) same
     ∙ ap (map (λ (x : ℕ × ℕ). x.0)) (filter_agree (λ (x : ℕ × ℕ). is_in row x.1) (λ (x : ℕ × ℕ). test x.1) (λ x. agree x.1) (enumerated 1 p.right))

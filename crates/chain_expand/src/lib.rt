@@ -1,17 +1,13 @@
-//! What a chain is given in plain rules.
+//! What chains add to the flat grammar.
 #![tactic(auto)]
 
 mod attrs;
 mod children;
 mod comps;
+mod expand;
 mod faults;
 mod needs;
 mod walk;
 mod walks;
 
-pub use attrs::all_attrs;
-pub use comps::all_comps;
-pub use faults::first_fault;
-pub use needs::all_needs;
-pub use walk::{Source, Walk};
-pub use walks::all_walks;
+pub use expand::expand_chains;

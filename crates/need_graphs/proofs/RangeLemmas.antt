@@ -60,7 +60,7 @@ module _ (t : Tables) (env : Environment) (is : AreTablesOf env t) where
   symbols = named_symbols t
 
   -- a symbol of a production is among those that are numbered
-  named : (r : RuleItem) → Contains t.spec.rules r → (x : ℕ) → Contains (symbols_of r) x → Contains symbols x
+  pub named : (r : RuleItem) → Contains t.spec.rules r → (x : ℕ) → Contains (symbols_of r) x → Contains symbols x
   named r among x m =
       let n = contains-map name_of (production_names r) x (subst (λ l. Contains (left_of r ∷ l) x) (sym (names-right r.right)) m) in
       let body = flat_map (symbols_of_computation (is_coordinate_of_rule env r)) r.body in

@@ -11,7 +11,7 @@ use Rattle.rule_tables.specs.Forced.{Force}
 use Rattle.rule_tables.specs.Needs.{Tables, has_start, is_read, is_tail}
 use Rattle.need_graphs.specs.Reads.{is_tail_place, reads}
 
-any-same : {X : Type 0} (f g : X → Bool) (xs : List X) → ((x : X) → f x ≡ g x) → list_any f xs ≡ list_any g xs
+pub any-same : {X : Type 0} (f g : X → Bool) (xs : List X) → ((x : X) → f x ≡ g x) → list_any f xs ≡ list_any g xs
 any-same f g [] same = refl
 any-same f g (x ∷ xs) same = let here = same x in let later = any-same f g xs same in λ i. here i || later i
 

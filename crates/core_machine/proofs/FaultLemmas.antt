@@ -1,6 +1,6 @@
 -- The least origin, attribute by attribute.
 use Rattle.std.specs.Prelude.{slice_get, option_map}
-use Rattle.std.proofs.Common.{◌≡◌, ◌≤◌, ◌<◌, ◌+◌, ◌⊎◌, ℕ, zero, suc, List, length, Bool, true, false, Option, Some, None, refl, arith, ap, sym, subst, ◌∙◌, inl, inr, true≢false, get_or}
+use Rattle.std.proofs.Common.{◌≡◌, ◌≤◌, ◌<◌, ◌+◌, ◌⊎◌, ℕ, List, length, Bool, true, false, Option, Some, None, refl, arith, ap, sym, subst, ◌∙◌, inl, inr, true≢false, get_or}
 use Rattle.std.proofs.lemmas.Option.{slice_get-get_or, slice_get_within, none-some}
 use Rattle.std.proofs.lemmas.Bool.{cases_order}
 use Rattle.lido_base.specs.declared.value.Value.{Value}
@@ -15,11 +15,10 @@ use Rattle.flat_grammar.specs.WholeOrder.{Instance}
 use Rattle.flat_grammar.specs.FlatAttribution.{IsFaultyAt, IsLeastFault}
 use Rattle.flat_grammar.proofs.Lists.{held}
 use Rattle.flat_grammar.proofs.GrownLemmas.{one-rule}
-use Rattle.core_machine.specs.Machine.{State, final}
+use Rattle.core_machine.specs.Machine.{final}
 use Rattle.core_machine.specs.Core.{Task, IsTask, machine}
 use Rattle.core_machine.specs.Slots.{found, offset}
 use Rattle.core_machine.specs.Faults.{IsLeast, IsLesser, fault_of, IsBefore, IsFaultOf, IsFaultBefore}
-use Rattle.core_machine.specs.Runs.{AreFinal}
 use Rattle.core_machine.proofs.Jobs.{grown}
 use Rattle.core_machine.proofs.Sites.{inside}
 

@@ -1,24 +1,22 @@
 -- The result of a run, from its values and rooms.
 use Rattle.std.specs.Prelude.{slice_get, Contains, AllPairs, option_and_then}
-use Rattle.std.specs.List.{AllZip, range_with_len}
-use Rattle.std.proofs.Common.{◌≡◌, ◌≤◌, ◌<◌, ◌+◌, ◌-◌, ℕ, zero, suc, List, [], ◌∷◌, map, length, Option, Some, None, refl, arith, ap, sym, subst, ◌∙◌, get_or}
+use Rattle.std.specs.List.{AllZip}
+use Rattle.std.proofs.Common.{◌≡◌, ◌<◌, ◌+◌, ◌-◌, ℕ, List, [], ◌∷◌, map, length, Option, Some, None, refl, arith, ap, sym, subst, ◌∙◌, get_or}
 use Rattle.std.proofs.lemmas.List.{get_or-map, length-map}
 use Rattle.std.proofs.lemmas.Option.{slice_get-get_or, slice_get_within, none-some}
 use Rattle.lido_base.specs.declared.value.Value.{Value}
-use Rattle.lido_base.specs.declared.value.Value.TheVariants as value
 use Rattle.lido_base.specs.declared.value.Origin.{Origin}
 use Rattle.lido_base.proofs.Lists.{contains-map, map-contains}
 use Rattle.string_librarian.specs.Rooms.{RoomState}
 use Rattle.flat_grammar.specs.declared.flat.FlatAttr.{FlatAttr}
 use Rattle.flat_grammar.specs.declared.flat.FlatSymbol.{FlatSymbol}
 use Rattle.flat_grammar.specs.declared.flat.FlatRule.{FlatRule}
-use Rattle.flat_grammar.specs.Rules.{attrs_of, attribute_at, HasRule}
-use Rattle.flat_grammar.specs.WholeOrder.{Instance}
+use Rattle.flat_grammar.specs.Rules.{attrs_of, HasRule}
 use Rattle.flat_grammar.proofs.Lists.{contains-first, contains-later}
 use Rattle.core_machine.specs.declared.notes.Entry.{Entry}
 use Rattle.core_machine.specs.Machine.{final}
-use Rattle.core_machine.specs.Core.{Task, IsTask, Note, IsEarlier, IsMessage, Tells, AreNotes, IsResult, machine, out, written_at}
-use Rattle.core_machine.specs.Slots.{found, offset, width}
+use Rattle.core_machine.specs.Core.{Task, IsTask, Note, IsEarlier, IsMessage, Tells, AreNotes, IsResult, machine, out}
+use Rattle.core_machine.specs.Slots.{found, offset}
 use Rattle.core_machine.specs.Faults.{IsLeast, IsFaultBefore}
 use Rattle.core_machine.specs.Notes.{instance_of, note_of, IsEntry, AreAllEntries}
 use Rattle.core_machine.specs.Runs.{AreFinal}

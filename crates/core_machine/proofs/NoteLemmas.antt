@@ -1,12 +1,12 @@
 -- The messages, attribute by attribute, and their order by written nodes.
-use Rattle.std.specs.Prelude.{slice_get, nat_lt, if◌then◌else◌, Contains, AllPairs, filter, map}
+use Rattle.std.specs.Prelude.{slice_get, nat_lt, if◌then◌else◌, Contains, AllPairs, filter}
 use Rattle.std.specs.Fn.{Called, ComputesKey}
 use Rattle.std.specs.Ordering.{is_lt, nat_cmp}
 use Rattle.std.proofs.lemmas.Fn.{always_returns_same}
 use denote.Param.Members.{Mut}
 use denote.Ref.{Bor}
 use Rattle.std.specs.List.Sorted.{IsNonDecreasingBy, IsPermutation, IsStableByKey, ties}
-use Rattle.std.proofs.Common.{◌≡◌, ◌≤◌, ◌<◌, ◌+◌, ◌⊎◌, ℕ, zero, suc, List, [], ◌∷◌, ◌++◌, length, Bool, true, false, Option, Some, None, refl, arith, ap, sym, subst, ◌∙◌, inl, inr, true≢false, get_or, ltb-true}
+use Rattle.std.proofs.Common.{◌≡◌, ◌≤◌, ◌<◌, ◌+◌, ◌⊎◌, ℕ, zero, suc, List, [], ◌∷◌, ◌++◌, length, Bool, true, false, Some, None, refl, arith, ap, sym, subst, ◌∙◌, inl, inr, true≢false, get_or, ltb-true}
 use Rattle.std.proofs.lemmas.Option.{slice_get-get_or, slice_get_within, none-some}
 use Rattle.std.proofs.lemmas.Bool.{cases_Bool, cases_order, lt-ltb}
 use Rattle.std.proofs.lemmas.Bool.Decides.{nat_tests}
@@ -22,7 +22,7 @@ use Rattle.flat_grammar.specs.declared.flat.FlatRule.{FlatRule}
 use Rattle.flat_grammar.specs.declared.flat.FlatAttr.{FlatAttr}
 use Rattle.flat_grammar.specs.Rules.{attrs_of, HasRule}
 use Rattle.flat_grammar.specs.WholeOrder.{Instance}
-use Rattle.flat_grammar.proofs.Lists.{held, contains-nil, contains-cons, contains-first, contains-later}
+use Rattle.flat_grammar.proofs.Lists.{held, contains-nil, contains-cons, contains-first}
 use Rattle.flat_grammar.proofs.GrownLemmas.{one-rule}
 use Rattle.core_machine.specs.declared.notes.Entry.{Entry}
 use Rattle.core_machine.specs.Core.{Task, IsTask, IsEarlier, IsMessage, written_at}

@@ -13,8 +13,7 @@ use Rattle.flat_grammar.specs.declared.flat.FlatRule.{FlatRule}
 use Rattle.flat_grammar.specs.declared.flat.FlatComp.{FlatComp}
 use Rattle.flat_grammar.specs.Fitting.{cells, most_text_cells}
 use Rattle.flat_grammar.specs.Rules.{HasRule}
-use Rattle.flat_grammar.specs.WholeOrder.{Instance}
-use Rattle.core_machine.specs.Core.{Task, IsTask, Computation, rule_of, computation_of, instances_in_order}
+use Rattle.core_machine.specs.Core.{Task, IsTask, Computation, rule_of, instances_in_order}
 use Rattle.core_machine.specs.Runs.{cost_in, cells_at, cells_in}
 use Rattle.core_machine.proofs.Counts.{sum-map}
 use Rattle.core_machine.proofs.Tasks.{of-rule}

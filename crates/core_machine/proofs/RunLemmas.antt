@@ -8,7 +8,7 @@ use Rattle.std.proofs.lemmas.Bool.{cases_Bool}
 use Rattle.std.proofs.lemmas.Grind.{flat_map-append}
 use Rattle.std.proofs.lemmas.List.{length-set}
 use Rattle.std.proofs.lemmas.List.FromFn.{length-map-range_with_len, get_or-map-range_with_len}
-use Rattle.std.proofs.lemmas.List.Elements.{Contains-append_left, Contains-append_right}
+use Rattle.std.proofs.lemmas.List.Elements.{Contains-append_left}
 use Rattle.std.proofs.lemmas.List.Sums.{sum_by-cons, fold-append}
 use Rattle.lido_base.specs.declared.value.Value.{Value}
 use Rattle.lido_base.specs.declared.ids.NodeId.{NodeId}
@@ -25,8 +25,8 @@ use Rattle.flat_grammar.specs.WholeOrder.{Instance}
 use Rattle.flat_grammar.specs.Instances.{IsInstance, instance_at}
 use Rattle.flat_grammar.proofs.Lists.{held, contains-cons, contains-nil, contains-first, contains-later}
 use Rattle.core_machine.specs.declared.cursor.Item.TheVariants as named
-use Rattle.core_machine.specs.Machine.{Item, State, eval_of, put_of, after, given, opening, final}
-use Rattle.core_machine.specs.Core.{Task, IsTask, Computation, same_instance, computation_of, home, needs, outcome, gives, instances_in_order, items_for, machine}
+use Rattle.core_machine.specs.Machine.{Item, State, eval_of, put_of, after, opening, final}
+use Rattle.core_machine.specs.Core.{Task, IsTask, Computation, same_instance, computation_of, home, outcome, gives, instances_in_order, items_for, machine}
 use Rattle.core_machine.specs.declared.cursor.Item.{Item as Named}
 use Rattle.core_machine.specs.Cursors.{CursorState, left, IsFirst}
 use Rattle.core_machine.specs.Whole.{undivided}

@@ -1,12 +1,12 @@
 -- What stands at an occurrence of a node's rule.
-use Rattle.std.specs.Prelude.{slice_get, is_some, IsTrue, not, option_and_then, unwrap_or, Contains, All}
+use Rattle.std.specs.Prelude.{slice_get, is_some, not, unwrap_or}
 use Rattle.std.specs.List.{AllZip}
-use Rattle.std.proofs.Common.{◌≡◌, ◌<◌, ◌≤◌, ◌-◌, ◌+◌, ℕ, zero, suc, List, [], ◌∷◌, length, Bool, true, false, Option, Some, None, refl, arith, ap, sym, subst, ◌∙◌, get_or, true≢false}
+use Rattle.std.proofs.Common.{◌≡◌, ◌<◌, ◌≤◌, ℕ, zero, suc, List, [], length, Bool, true, false, Option, Some, None, refl, arith, ap, sym, ◌∙◌, get_or, true≢false}
 use Rattle.std.proofs.lemmas.Option.{slice_get-get_or, slice_get_within, none-some}
 use Rattle.std.proofs.lemmas.List.Elements.{All-contains}
 use Rattle.lido_base.specs.declared.ids.SymId.{SymId}
 use Rattle.lido_base.specs.declared.value.Value.{Value}
-use Rattle.lido_base.specs.Tree.{Item, Child, Leaf, items_of, item_at, rule_at, IsNode, child_number}
+use Rattle.lido_base.specs.Tree.{Item, Child, Leaf, items_of, item_at, rule_at, IsNode}
 use Rattle.tree_store.specs.Growth.{IsTerminal}
 use Rattle.flat_grammar.specs.declared.flat.FlatRule.{FlatRule}
 use Rattle.flat_grammar.specs.declared.flat.FlatSymbol.{FlatSymbol}

@@ -1,21 +1,16 @@
 -- Where the values of instances stand: each at a place of its own, within the list.
-use Rattle.std.specs.Prelude.{slice_get, sum_by, map, Contains, unwrap_or}
+use Rattle.std.specs.Prelude.{sum_by, map}
 use Rattle.std.specs.List.{range_with_len}
-use Rattle.std.proofs.Common.{◌≡◌, ◌≤◌, ◌<◌, ◌+◌, ◌-◌, ◌⊎◌, ℕ, zero, suc, List, [], ◌∷◌, ◌++◌, length, Option, Some, None, refl, arith, ap, sym, subst, ◌∙◌, get_or, inl, inr}
-use Rattle.std.proofs.lemmas.Option.{slice_get-get_or, slice_get_within, none-some}
+use Rattle.std.proofs.Common.{◌≡◌, ◌≤◌, ◌<◌, ◌+◌, ◌-◌, ◌⊎◌, ℕ, zero, suc, List, [], ◌∷◌, ◌++◌, length, Option, Some, None, arith, ap, sym, ◌∙◌, get_or, inl, inr}
 use Rattle.std.proofs.lemmas.Bool.{cases_order}
 use Rattle.std.proofs.lemmas.List.Sums.{sum_by-append, sum_by-cons}
 use Rattle.std.proofs.lemmas.List.FromFn.{length-map-range_with_len, get_or-map-range_with_len, map-range_with_len_more}
-use Rattle.lido_base.specs.declared.value.Value.{Value}
-use Rattle.lido_base.specs.Tree.{Node, rule_at}
 use Rattle.flat_grammar.specs.declared.flat.FlatRule.{FlatRule}
-use Rattle.flat_grammar.specs.declared.flat.FlatSymbol.{FlatSymbol}
 use Rattle.flat_grammar.specs.Rules.{attrs_of, HasRule}
-use Rattle.flat_grammar.specs.Fitting.{at_node, most_instances}
+use Rattle.flat_grammar.specs.Fitting.{most_instances}
 use Rattle.flat_grammar.specs.WholeOrder.{Instance}
 use Rattle.flat_grammar.specs.Instances.{IsInstance}
-use Rattle.flat_grammar.proofs.Lists.{held}
-use Rattle.core_machine.specs.Core.{Task, IsTask, rule_of}
+use Rattle.core_machine.specs.Core.{Task, IsTask}
 use Rattle.core_machine.specs.Slots.{width, offset, all_offsets, slot}
 use Rattle.core_machine.proofs.Jobs.{grown}
 use Rattle.core_machine.proofs.Tasks.{of-rule}

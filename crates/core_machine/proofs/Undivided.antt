@@ -1,8 +1,7 @@
 -- The whole order is the list of the one region of the job that isn't split.
-use Rattle.std.specs.Prelude.{All, AllPairs, flat_map, map, filter, Contains, if◌then◌else◌, replicate}
-use Rattle.std.specs.List.{range_with_len}
+use Rattle.std.specs.Prelude.{flat_map, map, replicate}
 use Rattle.std.specs.List.Sorted.{IsStrictlyIncreasing}
-use Rattle.std.proofs.Common.{◌≡◌, ◌≤◌, ◌<◌, ℕ, suc, List, [], ◌∷◌, length, Bool, true, false, refl, arith, ap, sym, ◌∙◌, eq-eqb, get_or}
+use Rattle.std.proofs.Common.{◌≡◌, ◌<◌, ℕ, List, [], ◌∷◌, length, refl, arith, ap, sym, ◌∙◌, eq-eqb}
 use Rattle.std.proofs.lemmas.List.{length-replicate, get_or-replicate}
 use Rattle.std.proofs.lemmas.List.Elements.{All-nil}
 use Rattle.std.proofs.lemmas.List.FromFn.{fill_by_all}
@@ -10,7 +9,7 @@ use Rattle.lido_base.specs.declared.value.Value.{Value}
 use Rattle.lido_base.specs.Tree.{Tree}
 use Rattle.tree_store.specs.Regions.{region, regions}
 use Rattle.flat_grammar.specs.WholeOrder.{Instance}
-use Rattle.core_machine.specs.Machine.{Item, eval_of, own}
+use Rattle.core_machine.specs.Machine.{eval_of, own}
 use Rattle.core_machine.specs.Core.{Task, IsTask, home, items, items_for, instances_in_order, machine}
 use Rattle.core_machine.specs.Limits.{AreInTheirTypes}
 use Rattle.core_machine.specs.Whole.{undivided}

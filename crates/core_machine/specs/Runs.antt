@@ -1,5 +1,5 @@
 -- A run along the whole order: what it has behind some instances, where others are left.
-use Rattle.std.specs.Prelude.{◌≡◌, ◌≤◌, ◌==◌, ◌++◌, ℕ, suc, List, [], ◌∷◌, if◌then◌else◌, length, map, flat_map, fold, sum_by, Option, Some, None, slice_get, Contains}
+use Rattle.std.specs.Prelude.{◌≡◌, ◌≤◌, ◌==◌, ◌++◌, ℕ, suc, List, [], if◌then◌else◌, length, map, flat_map, fold, sum_by, Some, None, slice_get, Contains}
 use Rattle.std.specs.List.{range_with_len}
 use Rattle.lido_base.specs.declared.value.Value.{Value}
 use Rattle.string_librarian.specs.Rooms.{RoomState, Deposit}

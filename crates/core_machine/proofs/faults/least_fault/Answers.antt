@@ -1,4 +1,4 @@
-use Rattle.std.proofs.Common.{◌≡◌, ◌∙◌, ap, arith, subst, length}
+use Rattle.std.proofs.Common.{◌≡◌, ap, arith, subst, length}
 use Rattle.core_machine.specs.Faults.{IsLeast, IsFaultBefore}
 use Rattle.core_machine.proofs.faults.least_fault.Goals as goal
 

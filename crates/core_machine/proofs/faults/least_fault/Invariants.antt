@@ -1,4 +1,3 @@
-use Rattle.std.proofs.Common.{◌≤◌, length}
 use Rattle.core_machine.specs.Faults.{IsLeast, IsFaultBefore}
 use Rattle.core_machine.proofs.faults.least_fault.Given as goal
 

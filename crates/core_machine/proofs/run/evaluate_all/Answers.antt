@@ -1,12 +1,11 @@
-use Rattle.std.proofs.Common.{◌≡◌, ◌∙◌, ◌++◌, ◌∷◌, [], sym, subst, map}
+use Rattle.std.proofs.Common.{◌≡◌, ◌∙◌, ◌++◌, ◌∷◌, [], sym, subst}
 use Rattle.flat_grammar.specs.Instances.{instance_at}
-use Rattle.core_machine.specs.Machine.{own, eval_of}
+use Rattle.core_machine.specs.Machine.{own}
 use Rattle.core_machine.specs.Core.{Task, instances_in_order, items, machine}
-use Rattle.core_machine.specs.Cursors.{left, IsCursor, IsFirst}
+use Rattle.core_machine.specs.Cursors.{left, IsCursor}
 use Rattle.core_machine.specs.Runs.{IsBehind, IsStackFor}
-use Rattle.core_machine.specs.Whole.{undivided}
 use Rattle.core_machine.proofs.Undivided.{whole-list}
-use Rattle.core_machine.proofs.RunLemmas.{first-of, never-put, none-of, step-list, ended}
+use Rattle.core_machine.proofs.RunLemmas.{first-of, none-of, step-list, ended}
 use Rattle.core_machine.proofs.run.evaluate_all.Goals as goal
 
 pub loop-item-init : goal.loop-item-init

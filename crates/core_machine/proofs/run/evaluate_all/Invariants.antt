@@ -1,4 +1,4 @@
-use Rattle.std.proofs.Common.{◌≡◌, ◌++◌, List, map}
+use Rattle.std.proofs.Common.{◌≡◌, List, map}
 use Rattle.std.specs.Prelude.{vec_len, vec_capacity, length}
 use Rattle.flat_grammar.specs.WholeOrder.{Instance}
 use Rattle.core_machine.specs.Machine.{eval_of}

@@ -1,15 +1,13 @@
 use Rattle.std.specs.Prelude.{slice_get}
-use Rattle.std.proofs.Common.{◌≡◌, ◌<◌, ◌+◌, ◌∙◌, ap, sym, subst, arith, length, Some, get_or}
+use Rattle.std.proofs.Common.{◌<◌, ◌+◌, ◌∙◌, ap, sym, subst, arith, length, get_or}
 use Rattle.std.proofs.Math.ListN.{set}
 use Rattle.std.proofs.lemmas.Option.{slice_get-get_or}
-use Rattle.tree_store.specs.Regions.{region}
 use Rattle.flat_grammar.specs.Instances.{instance_at}
 use Rattle.flat_grammar.specs.WholeOrder.{node_at}
 use Rattle.core_machine.specs.Core.{Task}
-use Rattle.core_machine.specs.Slots.{slot, offset}
+use Rattle.core_machine.specs.Slots.{offset}
 use Rattle.core_machine.proofs.RunLemmas.{site-inside, site-is, room-there, room-enough, next-behind}
 use Rattle.core_machine.proofs.SlotLemmas.{begin-read, begin-inside, slot-inside}
-use Rattle.core_machine.proofs.SiteLemmas.{node-inside}
 use Rattle.core_machine.proofs.run.evaluate_next.Goals as goal
 
 pub bounds-rooms-region : goal.bounds-rooms-region

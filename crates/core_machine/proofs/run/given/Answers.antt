@@ -3,7 +3,7 @@ use Rattle.flat_grammar.specs.Fitting.{cells}
 use Rattle.flat_grammar.specs.Rules.{HasRule}
 use Rattle.flat_grammar.specs.Instances.{instance_at}
 use Rattle.flat_grammar.proofs.Lists.{held, contains-slice_get}
-use Rattle.core_machine.specs.Core.{Task, Computation, computation_of, outcome}
+use Rattle.core_machine.specs.Core.{Task, Computation, outcome}
 use Rattle.core_machine.specs.Slots.{all_offsets, found}
 use Rattle.core_machine.proofs.RunLemmas.{computation-is, site-inside}
 use Rattle.core_machine.proofs.run.given.Goals as goal

@@ -1,4 +1,4 @@
-use Rattle.std.proofs.Common.{◌≡◌, ◌∙◌, ap, arith, length, get_or, subst}
+use Rattle.std.proofs.Common.{◌∙◌, ap, arith, length, get_or}
 use Rattle.flat_grammar.specs.declared.flat.FlatComp.{FlatComp}
 use Rattle.flat_grammar.specs.Expressions.{weight}
 use Rattle.core_machine.proofs.SizeLemmas.{each-more, each-all, lighter, IsLight}

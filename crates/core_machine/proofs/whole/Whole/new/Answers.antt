@@ -1,4 +1,4 @@
-use Rattle.std.proofs.Common.{◌∙◌, ◌≡◌, ap, sym, length, ℕ, map}
+use Rattle.std.proofs.Common.{◌∙◌, ◌≡◌, ap, sym, length, map}
 use Rattle.std.specs.Prelude.{replicate}
 use Rattle.lido_base.specs.declared.ids.NodeId.{NodeId}
 use Rattle.tree_store.specs.Regions.{regions}

@@ -65,7 +65,8 @@ fn add_heirs(
     numbers: &Names,
     inheritance: &Inheritance,
 ) -> Result<(), Memory>
-    ensures { OnOk result (HasMore (Among (λ x s. IsTrue (has_owning_class owners.now numbers.now inheritance.now (number numbers.now x)) × (x ≡ s)) numbers.now)
+    ensures { OnOk result (HasMore
+        (Among (λ x s. IsTrue (has_owning_class owners.now numbers.now inheritance.now (number numbers.now x)) × (x ≡ s)) numbers.now)
         set.old set.new) }
 {
     for symbol in numbers.as_slice() {

@@ -1,6 +1,6 @@
 -- From the parts to all clashes.
-use Rattle.std.specs.Prelude.{Contains, IsTrue, ℤ, All, map, filter_map, ◌&&◌, not}
-use Rattle.std.proofs.Common.{◌≡◌, ℕ, ◌<◌, Bool, true, false, ◌⊎◌, inl, inr, List, [], ◌∷◌, ◌++◌, length, Option, Some, None, refl, sym, subst, ap, ◌∙◌}
+use Rattle.std.specs.Prelude.{Contains, IsTrue, ℤ, All, map, filter_map, not}
+use Rattle.std.proofs.Common.{◌≡◌, ℕ, ◌<◌, Bool, ◌⊎◌, inl, inr, List, [], ◌∷◌, length, Option, Some, None, refl, sym, subst, ap}
 use Rattle.std.proofs.lemmas.Bool.{both_ways, not-true, and_parts, and_from, or_cases, or_left, or_right, not_from_false, false_from_ne_true, cases_Bool}
 use Rattle.std.proofs.lemmas.Option.{same_Some, none-some}
 use Rattle.std.proofs.lemmas.List.Elements.{Contains-append_left, Contains-append_right, Contains-append_cases, All-contains}
@@ -13,8 +13,6 @@ use Rattle.lido_base.proofs.TreeLemmas.{test-contains}
 use Rattle.lido_syntax.specs.declared.spec.Spec.{Spec}
 use Rattle.lido_syntax.specs.declared.spec.Name.{Name}
 use Rattle.lido_syntax.specs.declared.spec.Comp.{Comp}
-use Rattle.lido_syntax.specs.declared.spec.Cons.{Cons}
-use Rattle.lido_syntax.specs.declared.spec.Decl.{Decl}
 use Rattle.lido_syntax.specs.declared.spec.Pair.{Pair}
 use Rattle.lido_syntax.specs.declared.spec.Element.{Element}
 use Rattle.lido_syntax.specs.declared.spec.Element.TheVariants.{Symbol, Literal}
@@ -29,23 +27,22 @@ use Rattle.lido_syntax.specs.Attributes.{uses, possible, IsOnSide, IsOwn, InBody
 use Rattle.lido_syntax.specs.Parts.{leaves_of}
 use Rattle.lido_syntax.specs.Production.{name_of}
 use Rattle.lido_syntax.specs.Sets.{names_of}
-use Rattle.lido_syntax.specs.Symbols.{IsNonterminal, IsOnRightSide, IsTerm, IsTerminal, IsChain}
+use Rattle.lido_syntax.specs.Symbols.{IsNonterminal, IsTerminal, IsChain}
 use Rattle.lido_symbols.specs.Classes.{IsClass}
 use Rattle.lido_symbols.specs.Uses.{element_name, production_names}
 use Rattle.kind_clashes.specs.declared.names.Names.{Names}
 use Rattle.kind_clashes.specs.declared.sets.NameSets.{NameSets}
-use Rattle.kind_clashes.specs.Comps.{is_chain_in, IsUseClash, IsTerminalName, IsPairClash, IsLeafClash, IsThisClash, IsTargetClash, IsTail, IsFromBelow, IsBarredByStart, IsBarredAt, IsBarredByInh, IsCompClash, IsBodyClash}
-use Rattle.kind_clashes.specs.Items.{IsOwnUse, IsOwnLeaf, IsOwnTarget, IsOwnIn, IsBrought, IsTerminalOfItem}
+use Rattle.kind_clashes.specs.Comps.{is_chain_in, IsUseClash, IsTerminalName, IsPairClash, IsLeafClash, IsThisClash, IsTargetClash, IsTail, IsFromBelow, IsBarredByStart, IsBarredAt, IsBarredByInh, IsCompClash}
+use Rattle.kind_clashes.specs.Items.{IsOwnUse, IsOwnLeaf, IsOwnTarget, IsOwnIn, IsBrought}
 use Rattle.kind_clashes.specs.KindClash as clash
 use Rattle.kind_clashes.specs.KindClash.{IsKindClash, IsPlainTerminal, IsLeaf, Brings, IsTwofold, IsBelow, remote_names, pairs_of}
-use Rattle.kind_clashes.specs.Least.{IsFirst, Among, earlier_of}
+use Rattle.kind_clashes.specs.Least.{IsFirst, earlier_of}
 use Rattle.kind_clashes.specs.Names.{has, IsSetOf}
 use Rattle.kind_clashes.specs.Plain.{IsNameClash, IsClashInRules, IsClashInItems, IsPlainClash}
 use Rattle.kind_clashes.specs.Sets.{AreNameSets, is_terminal_in, is_plain_terminal_in}
-use Rattle.kind_clashes.specs.Sides.{IsSideClash, IsTargetSideClash, IsBareClash, IsLeafSideClash, IsRuleCompClash}
-use Rattle.kind_clashes.specs.Symbols.{IsElementIn, IsClassInProduction, IsTerminalElement, IsTerminalInList, InheritsNoClass}
+use Rattle.kind_clashes.specs.Sides.{IsSideClash, IsTargetSideClash, IsLeafSideClash, IsRuleCompClash}
 use Rattle.kind_clashes.proofs.LeastLemmas.{first-same, first-join}
-use Rattle.kind_clashes.proofs.UsesLemmas.{IsUsed, IsUsedIn, by_target, by_leaf, by_read, by_pair, to-used, of-used}
+use Rattle.kind_clashes.proofs.UsesLemmas.{IsUsed, by_target, by_leaf, by_read, by_pair, to-used, of-used}
 
 -- a test that fails, and one that doesn't pass
 pub not-so : (b : Bool) → IsTrue (not b) → ¬ IsTrue b

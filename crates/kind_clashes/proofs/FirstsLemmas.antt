@@ -1,6 +1,6 @@
 -- The first places of names, as more are noted.
-use Rattle.std.specs.Prelude.{slice_get, nat_eq, min, Bool, true, false, if◌then◌else◌}
-use Rattle.std.proofs.Common.{◌≡◌, ℕ, ◌+◌, ◌≤◌, ◌⊎◌, inl, inr, List, length, Option, Some, None, refl, arith, ap, sym, subst, ◌∙◌, rules, eqb-true, true≢false}
+use Rattle.std.specs.Prelude.{slice_get, nat_eq, Bool, true, false, if◌then◌else◌}
+use Rattle.std.proofs.Common.{◌≡◌, ℕ, ◌+◌, ◌≤◌, List, length, Option, Some, None, refl, sym, subst, ◌∙◌, rules, eqb-true, true≢false}
 use Rattle.lido_syntax.specs.declared.spec.Name.{Name}
 use Rattle.lido_syntax.specs.Production.{name_of}
 use Rattle.kind_clashes.specs.declared.firsts.Firsts.{Firsts}

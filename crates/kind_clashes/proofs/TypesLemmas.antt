@@ -1,6 +1,6 @@
 -- Names that are declared with two types.
-use Rattle.std.specs.Prelude.{Contains, IsTrue}
-use Rattle.std.proofs.Common.{◌≡◌, ℕ, ◌<◌, ◌⊎◌, inl, inr, List, [], ◌∷◌, Option, refl, arith, sym, subst, ap, ◌∙◌}
+use Rattle.std.specs.Prelude.{Contains}
+use Rattle.std.proofs.Common.{◌≡◌, ℕ, inl, inr, List, [], ◌∷◌, Option, refl, arith, sym, subst, ◌∙◌}
 use Rattle.lido_base.specs.declared.value.ValueType.{ValueType}
 use Rattle.lido_base.specs.declared.value.ValueType.TheVariants.{Int, Str, Bool, Text, Void}
 use Rattle.lido_syntax.specs.declared.spec.Spec.{Spec}
@@ -10,7 +10,6 @@ use Rattle.kind_clashes.specs.declared.firsts.Firsts.{Firsts}
 use Rattle.kind_clashes.specs.declared.sets.NameSets.{NameSets}
 use Rattle.kind_clashes.specs.Firsts.{AreFirsts}
 use Rattle.kind_clashes.specs.Least.{IsFirst, Among, earlier_of}
-use Rattle.kind_clashes.specs.Names.{has}
 use Rattle.kind_clashes.specs.Sets.{AreNameSets}
 use Rattle.kind_clashes.specs.Types.{IsOther, IsTypedBehind, IsSecondType, IsSecondOfType, IsMisnamed, IsFaultyTerm}
 use Rattle.kind_clashes.proofs.ChainsLemmas.{behind-to, to-behind}

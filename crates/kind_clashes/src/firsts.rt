@@ -38,7 +38,8 @@ impl Firsts {
 
     #[tactic(auto, unfolding(crate::specs::Firsts::first_of))]
     fn put(&mut self, id: StrId, at: u32) -> Result<(), Memory>
-        ensures { OnOk result ((other : ℕ) → first_of self.new other ≡ (if nat_eq id.0 other then Some at else first_of self.old other)) }
+        ensures { OnOk result ((other : ℕ)
+            → first_of self.new other ≡ (if nat_eq id.0 other then Some at else first_of self.old other)) }
     {
         self.places.insert(id.0, at)?;
         Ok(())

@@ -107,7 +107,7 @@ module _ (env : Environment) (t : Tables) (symbols : Symbols) (known : AreKnown 
       attribute-of : (k : Kind) (a : ℕ) → Has t.spec s a → HasKind t.spec s a k → (j : ℕ) × (attr : FlatAttr) × (slice_get attrs j ≡ Some attr) × (attr.name.0 ≡ a) × (attr.kind ≡ k)
       attribute-of k a has of_kind =
           let (j, attr, there, n) = attribute-in env t known.tables x s at attrs of a has in
-          (j, attr, there, n, one-kind t.spec env known.kinds s a attr.kind k (subst (λ z. HasKind t.spec s z attr.kind) n (written-at env t known.tables x s at attrs of j attr there).kind) of_kind)
+          (j, attr, there, n, one-kind t.spec known.kinds.0 known.kinds.1 s a attr.kind k (subst (λ z. HasKind t.spec s z attr.kind) n (written-at env t known.tables x s at attrs of j attr there).kind) of_kind)
 
       goal-attribute : (h : Goal) → IsClash t.spec T s h → (goal_place t.spec T h).0 < 1
           → (j : ℕ) × (attr : FlatAttr) × (slice_get attrs j ≡ Some attr) × (goal_of (aim_of attr) ≡ h) × ((goal_place t.spec T h).1 ≡ place_in (nat_eq attr.name.0) T.attributes)
@@ -271,7 +271,7 @@ module _ (env : Environment) (t : Tables) (symbols : Symbols) (known : AreKnown 
       by (class.Terminal ty) not is = is.0 c.nonterminal
       by class.Class not is =
           let (r, m, n) = contains-map left_of t.spec.rules s (contains-test s (map left_of t.spec.rules) c.nonterminal) in
-          known.kinds r.left.at (clash.class_in_production r r.left m (contains-here r.left (filter_map element_name r.right)) (subst (λ z. IsClass t.spec z) (sym n) is) refl)
+          known.kinds.1 r.left.at (clash.class_in_production r r.left m (contains-here r.left (filter_map element_name r.right)) (subst (λ z. IsClass t.spec z) (sym n) is) refl)
       by class.Cell not is = is
 
   pub is-nonterminal : (row : SymbolRow) → slice_get t.symbols x ≡ Some row → row.class ≡ class.Nonterminal → IsNonterminal t.spec s

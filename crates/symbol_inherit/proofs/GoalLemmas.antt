@@ -224,8 +224,8 @@ module _ (t : Tables) (env : Environment) (is : AreTablesOf env t) where
       let (i, f) = contains-place t.spec.chains d m in
       (i, (d, f, n))
 
-  module _ (none : (at : ℕ) → ¬ IsKindClash t.spec env at) (s x : ℕ) (at : slice_get (named_symbols t) x ≡ Some s) where
-    goal-there : (g : Goal) → IsGoalIn t.spec env none s g → (e : Asked) × IsGoalAs t x e g
+  module _ (texts : Environment) (none : (at : ℕ) → ¬ IsKindClash t.spec texts at) (s x : ℕ) (at : slice_get (named_symbols t) x ≡ Some s) where
+    goal-there : (g : Goal) → IsGoalIn t.spec texts none s g → (e : Asked) × IsGoalAs t x e g
     goal-there (Synthesized a) h = let (id, k) = attribute-there s x a at h in (asked.Attr id, k)
     goal-there (Inherited a) h = let (id, k) = attribute-there s x a at h in (asked.Attr id, k)
     goal-there (Start c) h = let (i, k) = chain-there c h in (asked.Start i, k)
@@ -236,7 +236,7 @@ module _ (t : Tables) (env : Environment) (is : AreTablesOf env t) where
     -- each computation in force has an entry
     pub entry-there : (p : PlainRule) (r : RuleItem) (o : ℕ) → IsOccurrenceOf t p r o s x → (f : Force) → f.occ ≡ o → InForce t.spec r o s f.goal f.holder f.comp → (e : Entry) × IsEntryOf t p e f
     entry-there p r o occurs f q force =
-        let (g, told) = goal-there f.goal (goal-in t.spec env none r (place-contains t.spec.rules p.rule r occurs.of_rule) o s f.goal f.holder f.comp force) in (
+        let (g, told) = goal-there f.goal (goal-in t.spec texts none r (place-contains t.spec.rules p.rule r occurs.of_rule) o s f.goal f.holder f.comp force) in (
           record { occ = f.occ; goal = g; context = context_of f; number = f.comp.number },
           record {
             occ = refl;

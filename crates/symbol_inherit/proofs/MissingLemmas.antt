@@ -137,7 +137,7 @@ module _ (env : Environment) (t : Tables) (symbols : Symbols) (known : AreKnown 
       inherited e = subst (λ k. HasKind t.spec s attr.name.0 k) e is.kind
 
       not-both : HasKind t.spec s attr.name.0 kind.Synthesized → HasKind t.spec s attr.name.0 kind.Inherited → ⊥
-      not-both h k = let e = one-kind t.spec env known.kinds s attr.name.0 kind.Synthesized kind.Inherited h k in cc
+      not-both h k = let e = one-kind t.spec known.kinds.0 known.kinds.1 s attr.name.0 kind.Synthesized kind.Inherited h k in cc
 
       pub left-synthesized : IsPlaceIn t r i 0 s x → attr.kind ≡ kind.Synthesized → ¬ HasComputation t.spec r 0 s (Synthesized attr.name.0) ↔ IsMissing t.spec T i 0 attr.name.0
       left-synthesized place e = (

@@ -22,11 +22,11 @@ use Rattle.symbol_inherit.specs.declared.symbols.Symbols.{Symbols}
 use Rattle.symbol_inherit.proofs.SingleLemmas.{single}
 
 -- what is known of tables without faults
-pub are-known : (env : Environment) (t : Tables) → AreTablesOf env t → IsFromText t.spec → HasNone (table_faults t.spec env) → (symbols : Symbols) → AreSymbols t symbols → AreKnown env t symbols
-are-known env t is text none symbols its = record {
+pub are-known : (env : Environment) (t : Tables) → AreTablesOf env t → IsFromText t.spec → (texts : Environment) → HasNone (table_faults t.spec texts) → (symbols : Symbols) → AreSymbols t symbols → AreKnown env t symbols
+are-known env t is text texts none symbols its = record {
   tables = is;
-  single = single t.spec env text none;
-  kinds = at_place-none (λ at. fault.KindClash at) (IsKindClash t.spec env) none.1.1.1.0;
+  single = single t.spec texts text none;
+  kinds = (texts, at_place-none (λ at. fault.KindClash at) (IsKindClash t.spec texts) none.1.1.1.0);
   symbols = its;
 }
 

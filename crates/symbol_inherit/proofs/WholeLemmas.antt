@@ -53,7 +53,7 @@ module _ (env : Environment) (t : Tables) (symbols : Symbols) (known : AreKnown 
       all f (q, s, of_rule, at, force) =
           let rule : q ≡ r = same_Some q r (sym of_rule ∙ of) in
           let here = placed f.occ s (subst (λ q. IsWrittenAt q p.role f.occ s) rule at) in
-          let entry = entry-there t env known.tables known.kinds s here.0 here.1.number p r f.occ here.1 f refl (subst (λ q. InForce t.spec q f.occ s f.goal f.holder f.comp) rule force) in
+          let entry = entry-there t env known.tables known.kinds.0 known.kinds.1 s here.0 here.1.number p r f.occ here.1 f refl (subst (λ q. InForce t.spec q f.occ s f.goal f.holder f.comp) rule force) in
           (entry.0, up.all entry.0 (f, (q, s, of_rule, at, force), entry.1) (inl (kind-small entry.0.goal)), entry.1)
 
   module _ (r : RuleItem) (left : SymId) (right : List SymId) (with : IsRuleWith t p r left right) where

@@ -59,7 +59,7 @@ pub record AreUpTo (t : Tables) (p : PlainRule) (k o n : ℕ) (entries : List En
 pub record AreKnown (env : Environment) (t : Tables) (its : Symbols) : Type 0 where
   pub tables : AreTablesOf env t
   pub single : IsSingle t.spec
-  pub kinds : (at : ℕ) → ¬ IsKindClash t.spec env at
+  pub kinds : (texts : Environment) × ((at : ℕ) → ¬ IsKindClash t.spec texts at)
   pub symbols : AreSymbols t its
 
 -- the occurrence of the plain rule, which is one of this written rule, has this symbol, with this number

@@ -62,8 +62,9 @@ fn later_fault(
 /// What is in force in each plain rule, or the first fault.
 fn outcome(alloc: Global, tables: &Tables) -> Result<Result<List<List<Force>>, SpecFault>, Memory>
     requires few { length tables.now.symbols ≤ 512 }
-    requires tables { (env : Environment) × AreTablesOf env tables.now × IsFromText tables.now.spec
-        × HasNone (table_faults tables.now.spec env) }
+    requires tables { (env : Environment) × AreTablesOf env tables.now }
+    requires text { IsFromText tables.now.spec }
+    requires faults { (texts : Environment) × HasNone (table_faults tables.now.spec texts) }
     ensures comps { IfOk result (λ r. IfOk r (λ comps. AllZip (AreEntriesOf tables.now) (plain_rules tables.now.spec (named_symbols tables.now)) comps)) }
     ensures none { IfOk result (λ r. IfOk r (λ comps. (T : Numbered tables.now.spec) → AreNumbersIn tables.now T
         → HasNone (in_force_faults tables.now.spec T))) }
@@ -88,7 +89,9 @@ fn outcome(alloc: Global, tables: &Tables) -> Result<Result<List<List<Force>>, S
 /// computations of two classes that are left for one goal, or an attribute that nothing computes; or it is want of memory.
 pub fn in_force(alloc: Global, tables: Tables) -> Result<Forced, SpecFault>
     requires few { length tables.symbols ≤ 512 }
-    requires tables { (env : Environment) × AreTablesOf env tables × IsFromText tables.spec × HasNone (table_faults tables.spec env) }
+    requires tables { (env : Environment) × AreTablesOf env tables }
+    requires text { IsFromText tables.spec }
+    requires faults { (texts : Environment) × HasNone (table_faults tables.spec texts) }
     ensures tables { IfOk result (λ forced. forced.tables ≡ tables) }
     ensures forced { IfOk result (λ forced. (env : Environment) → AreTablesOf env tables → AreForcedOf env forced) }
     ensures none { IfOk result (λ _. (T : Numbered tables.spec) → AreNumbersIn tables T → HasNone (in_force_faults tables.spec T)) }

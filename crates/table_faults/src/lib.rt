@@ -1,7 +1,7 @@
 //! The faults of the tables of a specification, and the first of them.
 #![tactic(auto)]
 
-mod check;
+mod checks;
 mod doubles;
 mod duplicates;
 mod indices;
@@ -10,6 +10,7 @@ mod outputs;
 mod roots;
 mod unknown;
 
+pub use checks::check;
 pub use doubles::least_double;
 pub use duplicates::least_duplicate;
 pub use indices::least_bad_index;

@@ -4,7 +4,9 @@ ghost use Rattle.lido_base.specs.Environment.{Environment};
 ghost use Rattle.lido_base.specs.Faults.{HasNone, First};
 ghost use Rattle.kind_clashes.specs.Sets.{AreNameSets};
 ghost use Rattle.lido_syntax.specs.declared.fault.SpecFault.TheVariants as fault;
-ghost use Rattle.table_faults.specs.Phases.{name_faults, place_faults};
+ghost use Rattle.table_faults.specs.Faults.{table_faults};
+ghost use Rattle.table_faults.specs.Phases.{name_faults, kind_faults, place_faults};
+ghost use Rattle.lido_symbols.specs.FromText.{IsFromText};
 ghost use Rattle.table_faults.specs.Limits.{limit_faults};
 
 use crate::doubles::least_double;
@@ -14,6 +16,7 @@ use crate::limits::too_many;
 use crate::outputs::least_bad_out;
 use crate::roots::root_count;
 use crate::unknown::least_unknown;
+use clash_pairs::least_kind_clash;
 use kind_clashes::NameSets;
 use lido_base::Strings;
 use lido_syntax::{Spec, SpecFault};
@@ -78,4 +81,31 @@ fn check_limits(alloc: Global, spec: &Spec, strings: &Strings) -> Result<(), Spe
         Some(what) => Err(SpecFault::TooMany { what }),
         None => Ok(()),
     }
+}
+
+/// Whether nothing is used as what it is not, or declared as two things.
+fn check_kinds(alloc: Global, spec: &Spec, strings: &Strings) -> Result<(), SpecFault>
+    requires { IsFromText spec.now }
+    ensures ok { IfOk result (λ done. (env : Environment) → env.texts ≡ strings.now → HasNone (kind_faults spec.now env)) }
+    ensures err { IfErr result (λ f. (f ≡ fault.Memory) ⊎ ((env : Environment) → env.texts ≡ strings.now → First (kind_faults spec.now env) f)) }
+{
+    match least_kind_clash(alloc, spec, strings)? {
+        Some(at) => Err(SpecFault::KindClash { at }),
+        None => Ok(()),
+    }
+}
+
+/// Whether a specification that was read from a text has no fault of its tables; or the first: UnknownSymbol, DuplicateRule,
+/// RootNotOne, KindClash, BadIndex, DoubleComputation, BadOut or TooMany, in this order, each at its least place.
+pub fn check(alloc: Global, spec: &Spec, strings: &Strings) -> Result<(), SpecFault>
+    requires text { IsFromText spec.now }
+    requires few { length spec.now.rules < 2 ^ 32 }
+    ensures ok { IfOk result (λ done. (env : Environment) → env.texts ≡ strings.now → HasNone (table_faults spec.now env)) }
+    ensures err { IfErr result (λ f. (f ≡ fault.Memory) ⊎ ((env : Environment) → env.texts ≡ strings.now → First (table_faults spec.now env) f)) }
+{
+    let sets = NameSets::of(alloc, spec)?;
+    check_names(alloc, spec, &sets, strings)?;
+    check_kinds(alloc, spec, strings)?;
+    check_places(alloc, spec, &sets, strings)?;
+    check_limits(alloc, spec, strings)
 }

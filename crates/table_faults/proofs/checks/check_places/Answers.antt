@@ -1,7 +1,7 @@
 use Rattle.std.proofs.Common.{inl, inr}
 use Rattle.lido_syntax.specs.declared.fault.SpecFault.TheVariants as fault
 use Rattle.table_faults.proofs.CheckLemmas.{found, not-found}
-use Rattle.table_faults.proofs.check.check_places.Goals as goal
+use Rattle.table_faults.proofs.checks.check_places.Goals as goal
 
 pub returns-in-Some-2-clause-err : goal.returns-in-Some-2-clause-err
 returns-in-Some-2-clause-err c = inr (λ env texts. inr (

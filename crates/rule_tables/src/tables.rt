@@ -26,7 +26,7 @@ pub struct SymbolRow {
     pub class: SymbolClass,
     /// By the places where their names first stand in the text. A class has those that it hands to its heirs.
     pub attrs: List<FlatAttr>,
-    /// The classes that its items name behind INHERITS, in the order of the text, each once.
+    /// The classes that its items name behind INHERITS, by number, each once.
     pub classes: List<SymId>,
 }
 

@@ -9,7 +9,7 @@ use Rattle.lido_symbols.specs.Numbers.{enumerated}
 use Rattle.flat_grammar.specs.declared.flat.FlatRule.{FlatRule}
 use Rattle.need_graphs.specs.Users.{entries_at}
 use Rattle.need_graphs.proofs.EdgeLemmas.{zip-left}
-use Rattle.rule_tables.specs.declared.tables.SymbolRow.{SymbolRow}
+use Rattle.rule_tables.specs.declared.table.SymbolRow.{SymbolRow}
 use Rattle.rule_tables.specs.declared.forced.Forced.{Forced}
 use Rattle.rule_tables.specs.declared.forced.Force.{Force as Entry}
 use Rattle.rule_tables.specs.ForcedOf.{AreForcedOf, AreNumbersOf}

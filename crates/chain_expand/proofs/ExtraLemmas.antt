@@ -15,8 +15,8 @@ use Rattle.lido_syntax.specs.declared.spec.RuleItem.{RuleItem}
 use Rattle.need_graphs.proofs.RangeLemmas.{filter-part}
 use Rattle.rule_tables.specs.PlainRules.{lists}
 use Rattle.rule_tables.specs.TablesOf.{named_symbols}
-use Rattle.rule_tables.specs.declared.tables.Tables.{Tables as Rows}
-use Rattle.rule_tables.specs.declared.tables.SymbolRow.{SymbolRow}
+use Rattle.rule_tables.specs.declared.table.Tables.{Tables as Rows}
+use Rattle.rule_tables.specs.declared.table.SymbolRow.{SymbolRow}
 use Rattle.rule_tables.specs.declared.forced.Forced.{Forced}
 use Rattle.rule_tables.specs.declared.extra.ExtraAttr.{ExtraAttr}
 use Rattle.rule_tables.specs.ForcedOf.{AreForcedOf, AreNumbersOf}

@@ -17,8 +17,8 @@ use Rattle.lido_syntax.specs.Production.{name_of, left_of, right_of}
 use Rattle.lido_symbols.specs.Numbers.{AreNumbered}
 use Rattle.lido_symbols.specs.Uses.{symbol_uses}
 use Rattle.need_graphs.proofs.RangeLemmas.{named}
-use Rattle.rule_tables.specs.declared.tables.Tables.{Tables as Rows}
-use Rattle.rule_tables.specs.declared.tables.SymbolRow.{SymbolRow}
+use Rattle.rule_tables.specs.declared.table.Tables.{Tables as Rows}
+use Rattle.rule_tables.specs.declared.table.SymbolRow.{SymbolRow}
 use Rattle.rule_tables.specs.declared.forced.Forced.{Forced}
 use Rattle.rule_tables.specs.PlainRules.{lists}
 use Rattle.rule_tables.specs.ForcedOf.{AreForcedOf, AreNumbersOf}

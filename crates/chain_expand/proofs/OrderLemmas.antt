@@ -12,7 +12,7 @@ use Rattle.lido_symbols.proofs.CollectedLemmas.{filtered_flat}
 use Rattle.flat_grammar.specs.declared.flat.FlatRule.{FlatRule}
 use Rattle.least_paths.specs.Graph.{is_in}
 use Rattle.need_graphs.proofs.ListLemmas.{enumerated-place, contains-filtered}
-use Rattle.rule_tables.specs.declared.tables.SymbolRow.{SymbolRow}
+use Rattle.rule_tables.specs.declared.table.SymbolRow.{SymbolRow}
 use Rattle.rule_tables.specs.declared.extra.ExtraAttr.{ExtraAttr}
 use Rattle.rule_tables.specs.declared.extra.ExtraComp.{ExtraComp}
 use Rattle.rule_tables.specs.declared.extra.Slot.TheVariants as named

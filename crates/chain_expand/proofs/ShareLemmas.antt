@@ -21,10 +21,10 @@ use Rattle.need_graphs.proofs.EdgeLemmas.{zip-left, zip-right}
 use Rattle.need_graphs.proofs.RangeLemmas.{filter-part}
 use Rattle.need_graphs.proofs.ReadLemmas.{any-map, any-same}
 use Rattle.need_graphs.proofs.StartLemmas.{at-zip}
-use Rattle.rule_tables.specs.declared.tables.Tables.{Tables as Rows}
-use Rattle.rule_tables.specs.declared.tables.SymbolRow.{SymbolRow}
-use Rattle.rule_tables.specs.declared.tables.SymbolClass.{SymbolClass}
-use Rattle.rule_tables.specs.declared.tables.SymbolClass.TheVariants as class
+use Rattle.rule_tables.specs.declared.table.Tables.{Tables as Rows}
+use Rattle.rule_tables.specs.declared.table.SymbolRow.{SymbolRow}
+use Rattle.rule_tables.specs.declared.table.SymbolClass.{SymbolClass}
+use Rattle.rule_tables.specs.declared.table.SymbolClass.TheVariants as class
 use Rattle.rule_tables.specs.declared.forced.Forced.{Forced}
 use Rattle.rule_tables.specs.declared.forced.Force.{Force as Entry}
 use Rattle.rule_tables.specs.declared.extra.ExtraComp.{ExtraComp}

@@ -14,7 +14,7 @@ use Rattle.lido_symbols.specs.Numbers.{enumerated}
 use Rattle.least_paths.specs.Graph.{is_in}
 use Rattle.need_graphs.proofs.ListLemmas.{enumerated-place}
 use Rattle.need_graphs.proofs.RangeLemmas.{filter-part}
-use Rattle.rule_tables.specs.declared.tables.Tables.{Tables as Rows}
+use Rattle.rule_tables.specs.declared.table.Tables.{Tables as Rows}
 use Rattle.rule_tables.specs.declared.forced.Force.{Force as Entry}
 use Rattle.rule_tables.specs.declared.forced.Goal.{Goal}
 use Rattle.rule_tables.specs.declared.forced.Goal.TheVariants as goal

@@ -4,7 +4,7 @@ use Rattle.lido_base.specs.declared.kinds.Kind.TheVariants as kind
 use Rattle.lido_syntax.specs.declared.spec.Typed1.{Typed1}
 use Rattle.lido_symbols.specs.Numbers.{enumerated}
 use Rattle.least_paths.specs.Graph.{is_in}
-use Rattle.rule_tables.specs.declared.tables.SymbolRow.{SymbolRow}
+use Rattle.rule_tables.specs.declared.table.SymbolRow.{SymbolRow}
 use Rattle.rule_tables.specs.declared.extra.ExtraAttr.{ExtraAttr}
 use Rattle.rule_tables.specs.declared.extra.Slot.TheVariants as named
 

@@ -6,7 +6,7 @@ use Rattle.lido_syntax.specs.Production.{name_of}
 use Rattle.lido_syntax.specs.Symbols.{IsNonterminal, IsRoot}
 use Rattle.lido_symbols.specs.Classes.{IsClass}
 use Rattle.need_graphs.specs.Users.{TellComputations}
-use Rattle.rule_tables.specs.declared.tables.Tables.{Tables}
+use Rattle.rule_tables.specs.declared.table.Tables.{Tables}
 use Rattle.chain_expand.specs.Comps.{AreFew}
 
 -- Computations have different numbers, chains different names, no class is a nonterminal, and there is one root.

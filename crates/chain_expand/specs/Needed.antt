@@ -11,7 +11,7 @@ use Rattle.lido_syntax.specs.Production.{name_of}
 use Rattle.lido_symbols.specs.Numbers.{enumerated}
 use Rattle.least_paths.specs.Graph.{is_in}
 use Rattle.need_graphs.specs.Users.{TellComputations}
-use Rattle.rule_tables.specs.declared.tables.SymbolRow.{SymbolRow}
+use Rattle.rule_tables.specs.declared.table.SymbolRow.{SymbolRow}
 use Rattle.rule_tables.specs.declared.forced.Forced.{Forced}
 use Rattle.rule_tables.specs.ForcedOf.{AreForcedOf, AreNumbersOf}
 use Rattle.rule_tables.specs.Needs.{Tables, NeedsChain, uses_chain, passes_chain}

@@ -4,9 +4,9 @@ use Rattle.std.specs.List.{list_any, AllZip}
 use Rattle.lido_base.specs.declared.ids.SymId.{SymId}
 use Rattle.flat_grammar.specs.declared.flat.FlatRule.{FlatRule}
 use Rattle.least_paths.specs.Graph.{is_in}
-use Rattle.rule_tables.specs.declared.tables.SymbolRow.{SymbolRow}
-use Rattle.rule_tables.specs.declared.tables.SymbolClass.{SymbolClass}
-use Rattle.rule_tables.specs.declared.tables.SymbolClass.TheVariants as class
+use Rattle.rule_tables.specs.declared.table.SymbolRow.{SymbolRow}
+use Rattle.rule_tables.specs.declared.table.SymbolClass.{SymbolClass}
+use Rattle.rule_tables.specs.declared.table.SymbolClass.TheVariants as class
 use Rattle.rule_tables.specs.declared.forced.Force.{Force as Entry}
 use Rattle.rule_tables.specs.declared.forced.Goal.{Goal}
 use Rattle.rule_tables.specs.declared.forced.Goal.TheVariants as goal

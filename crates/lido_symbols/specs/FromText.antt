@@ -1,6 +1,6 @@
 -- What a specification that was read from a text has beside its form: places tell names, and places and numbers tell computations
--- and remote lists; lists that need an element have one.
-use Rattle.std.specs.Prelude.{◌≡◌, ℕ, ◌<◌, ◌⊎◌, false, true, List, ◌++◌, map, flat_map, length, All, AllPairs, Contains}
+-- and remote lists; lists that need an element have one. A text has fewer than 2^32 bytes, and so fewer rules.
+use Rattle.std.specs.Prelude.{◌≡◌, ℕ, ◌<◌, ◌^◌, ◌⊎◌, false, true, List, ◌++◌, map, flat_map, length, All, AllPairs, Contains}
 use Rattle.lido_syntax.specs.declared.spec.Spec.{Spec}
 use Rattle.lido_syntax.specs.declared.spec.Name.{Name}
 use Rattle.lido_syntax.specs.declared.spec.Cons.{Cons}
@@ -40,3 +40,4 @@ module _ (spec : Spec) where
     pub including_pairs : All (λ (x : ℕ × List Pair). 0 < length x.1) (all_includings spec)
     pub constituents_pairs : All (λ (x : ℕ × Cons). 0 < length x.1.pairs) (all_constituents spec)
     pub elements : (r : RuleItem) → Contains spec.rules r → r.list ≡ true → 0 < length r.right
+    pub few_rules : length spec.rules < 2 ^ 32

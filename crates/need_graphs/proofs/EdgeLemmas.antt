@@ -12,7 +12,7 @@ use Rattle.lido_base.proofs.TreeLemmas.{contains-test, test-contains}
 use Rattle.flat_grammar.specs.declared.flat.FlatRule.{FlatRule}
 use Rattle.least_paths.specs.Graph.{is_in}
 use Rattle.rule_graphs.specs.Children.{IsRuleEdge}
-use Rattle.rule_tables.specs.declared.tables.Tables.{Tables}
+use Rattle.rule_tables.specs.declared.table.Tables.{Tables}
 use Rattle.rule_tables.specs.PlainRules.{PlainRule, plain_rules, is_child}
 use Rattle.rule_tables.specs.TablesOf.{named_symbols, AreTablesOf, IsPlainOf}
 use Rattle.rule_tables.proofs.NeedsLemmas.{any-found}

@@ -13,7 +13,7 @@ use Rattle.lido_syntax.specs.declared.spec.Element.TheVariants.{Symbol, Literal}
 use Rattle.lido_syntax.specs.Production.{name_of, left_of, right_of, symbol_of, symbols_of}
 use Rattle.lido_symbols.specs.Numbers.{place_in, enumerated, different}
 use Rattle.lido_symbols.specs.Uses.{element_name, production_names, symbols_of_rule, symbols_of_item, symbols_of_computation, is_coordinate_of_rule, with_place}
-use Rattle.rule_tables.specs.declared.tables.Tables.{Tables}
+use Rattle.rule_tables.specs.declared.table.Tables.{Tables}
 use Rattle.rule_tables.specs.PlainRules.{PlainRule, Link, End, lists, number, cell, written_rule, cell_rules, plain_rules}
 use Rattle.rule_tables.specs.TablesOf.{named_symbols, AreTablesOf}
 use Rattle.rule_tables.proofs.SlotLemmas.{number-at_place}

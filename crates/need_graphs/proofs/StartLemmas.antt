@@ -16,7 +16,7 @@ use Rattle.lido_symbols.specs.Uses.{is_same_option}
 use Rattle.least_paths.specs.Graph.{is_in}
 use Rattle.least_paths.proofs.GraphLemmas.{in-at}
 use Rattle.rule_graphs.specs.Children.{IsRuleEdge}
-use Rattle.rule_tables.specs.declared.tables.Tables.{Tables}
+use Rattle.rule_tables.specs.declared.table.Tables.{Tables}
 use Rattle.rule_tables.specs.declared.forced.Forced.{Forced}
 use Rattle.rule_tables.specs.declared.forced.Force.{Force as Entry}
 use Rattle.rule_tables.specs.declared.forced.Goal.{Goal}

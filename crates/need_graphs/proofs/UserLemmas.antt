@@ -16,7 +16,7 @@ use Rattle.lido_syntax.specs.Parts.{leaves_of}
 use Rattle.lido_symbols.specs.Numbers.{enumerated}
 use Rattle.lido_symbols.specs.Uses.{is_same_option, computations}
 use Rattle.flat_grammar.specs.declared.flat.FlatRule.{FlatRule}
-use Rattle.rule_tables.specs.declared.tables.Tables.{Tables}
+use Rattle.rule_tables.specs.declared.table.Tables.{Tables}
 use Rattle.rule_tables.specs.declared.forced.Forced.{Forced}
 use Rattle.rule_tables.specs.declared.forced.Force.{Force as Entry}
 use Rattle.rule_tables.specs.declared.forced.Goal.{Goal}

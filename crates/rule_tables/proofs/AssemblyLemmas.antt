@@ -11,7 +11,7 @@ use Rattle.lido_syntax.specs.declared.spec.RuleItem.{RuleItem}
 use Rattle.lido_syntax.specs.Symbols.{IsRoot}
 use Rattle.lido_symbols.specs.Numbers.{AreNumbered, enumerated}
 use Rattle.lido_symbols.specs.Uses.{symbol_uses}
-use Rattle.rule_tables.specs.declared.tables.SymbolRow.{SymbolRow}
+use Rattle.rule_tables.specs.declared.table.SymbolRow.{SymbolRow}
 use Rattle.rule_tables.specs.PlainRules.{plain_rules, lists, number, IsShapeOf}
 use Rattle.rule_tables.specs.TablesOf.{symbol_named, IsRowOf, IsCellOf, IsPlainOf, AreTablesOf}
 use Rattle.rule_tables.proofs.PlainLemmas.{is_list}

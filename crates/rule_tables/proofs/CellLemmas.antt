@@ -22,7 +22,7 @@ use Rattle.lido_syntax.specs.declared.spec.RuleItem.{RuleItem}
 use Rattle.lido_syntax.specs.Production.{right_of}
 use Rattle.lido_base.proofs.Lists.{contains-cons, contains-here, contains-later}
 use Rattle.std.proofs.lemmas.List.Concat.{flat_map-append}
-use Rattle.rule_tables.specs.declared.tables.SymbolRow.{SymbolRow}
+use Rattle.rule_tables.specs.declared.table.SymbolRow.{SymbolRow}
 
 -- ---- different symbols
 

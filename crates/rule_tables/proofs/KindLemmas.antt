@@ -20,8 +20,8 @@ use Rattle.kind_clashes.specs.Sets.{AreNameSets}
 use Rattle.table_faults.specs.Faults.{IsKnown, class, declared, in_production}
 use Rattle.rule_tables.specs.SymbolKinds.{type_in, Declares, AreTermTypes}
 use Rattle.rule_tables.specs.declared.symbol_kinds.TermTypes.{TermTypes}
-use Rattle.rule_tables.specs.declared.tables.SymbolClass.{SymbolClass}
-use Rattle.rule_tables.specs.declared.tables.SymbolClass.TheVariants as kind
+use Rattle.rule_tables.specs.declared.table.SymbolClass.{SymbolClass}
+use Rattle.rule_tables.specs.declared.table.SymbolClass.TheVariants as kind
 use Rattle.rule_tables.specs.TablesOf.{IsSymbolClass}
 
 pub types-none : (types : TermTypes) → ((s : ℕ) → type_in types s ≡ None) → AreTermTypes [] types

@@ -11,9 +11,9 @@ use Rattle.lido_base.proofs.Lists.{AllZip-place}
 use Rattle.lido_syntax.specs.declared.spec.Spec.{Spec}
 use Rattle.lido_syntax.specs.declared.spec.RuleItem.{RuleItem}
 use Rattle.lido_symbols.specs.Numbers.{enumerated}
-use Rattle.rule_tables.specs.declared.tables.SymbolRow.{SymbolRow}
-use Rattle.rule_tables.specs.declared.tables.SymbolClass.{SymbolClass}
-use Rattle.rule_tables.specs.declared.tables.SymbolClass.TheVariants as class
+use Rattle.rule_tables.specs.declared.table.SymbolRow.{SymbolRow}
+use Rattle.rule_tables.specs.declared.table.SymbolClass.{SymbolClass}
+use Rattle.rule_tables.specs.declared.table.SymbolClass.TheVariants as class
 use Rattle.rule_tables.specs.PlainRules.{lists}
 use Rattle.rule_tables.specs.TablesOf.{symbol_named, IsSymbolClass, IsRowOf, IsCellOf}
 use Rattle.rule_tables.proofs.PlainLemmas.{is_list, zip-append}

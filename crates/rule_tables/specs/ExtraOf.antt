@@ -4,7 +4,7 @@ use Rattle.std.specs.List.{AllZip}
 use Rattle.lido_base.specs.Environment.{Environment}
 use Rattle.lido_syntax.specs.declared.spec.Spec.{Spec}
 use Rattle.lido_syntax.specs.declared.spec.Typed1.{Typed1}
-use Rattle.rule_tables.specs.declared.tables.Tables.{Tables as Rows}
+use Rattle.rule_tables.specs.declared.table.Tables.{Tables as Rows}
 use Rattle.rule_tables.specs.declared.extra.Extra.{Extra}
 use Rattle.rule_tables.specs.declared.extra.ExtraAttr.{ExtraAttr}
 use Rattle.rule_tables.specs.declared.extra.ExtraComp.{ExtraComp}

@@ -7,8 +7,8 @@ use Rattle.flat_grammar.specs.declared.flat.FlatAttr.{FlatAttr}
 use Rattle.lido_syntax.specs.declared.spec.Typed1.{Typed1}
 use Rattle.lido_syntax.specs.Production.{name_of}
 use Rattle.lido_syntax.specs.Computation as written
-use Rattle.rule_tables.specs.declared.tables.Tables.{Tables as Rows}
-use Rattle.rule_tables.specs.declared.tables.SymbolRow.{SymbolRow}
+use Rattle.rule_tables.specs.declared.table.Tables.{Tables as Rows}
+use Rattle.rule_tables.specs.declared.table.SymbolRow.{SymbolRow}
 use Rattle.rule_tables.specs.declared.forced.Forced.{Forced}
 use Rattle.rule_tables.specs.declared.forced.Force.{Force as Entry}
 use Rattle.rule_tables.specs.declared.forced.Goal.{Goal}

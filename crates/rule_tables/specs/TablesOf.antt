@@ -16,10 +16,10 @@ use Rattle.lido_symbols.specs.Numbers.{AreNumbered, enumerated}
 use Rattle.lido_symbols.specs.Classes.{IsClass}
 use Rattle.lido_symbols.specs.Uses.{symbol_uses}
 use Rattle.symbol_attributes.specs.Written.{AreAttributesOf}
-use Rattle.rule_tables.specs.declared.tables.Tables.{Tables}
-use Rattle.rule_tables.specs.declared.tables.SymbolRow.{SymbolRow}
-use Rattle.rule_tables.specs.declared.tables.SymbolClass.{SymbolClass}
-use Rattle.rule_tables.specs.declared.tables.SymbolClass.TheVariants as class
+use Rattle.rule_tables.specs.declared.table.Tables.{Tables}
+use Rattle.rule_tables.specs.declared.table.SymbolRow.{SymbolRow}
+use Rattle.rule_tables.specs.declared.table.SymbolClass.{SymbolClass}
+use Rattle.rule_tables.specs.declared.table.SymbolClass.TheVariants as class
 use Rattle.rule_tables.specs.PlainRules.{PlainRule, plain_rules, lists, number, IsShapeOf}
 use Rattle.rule_tables.specs.Flat.{rule_text}
 

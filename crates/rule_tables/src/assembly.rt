@@ -20,7 +20,7 @@ use crate::root::root_of;
 use crate::rows::rows;
 use crate::rule_shapes::shapes;
 use crate::symbol_kinds::TermTypes;
-use crate::tables::{SymbolRow, Tables};
+use crate::table::{SymbolRow, Tables};
 use crate::written::written_rules;
 use flat_grammar::FlatRule;
 use kind_clashes::NameSets;

@@ -9,7 +9,7 @@ ghost use Rattle.rule_tables.specs.RuleNames.{HasNames};
 ghost use Rattle.rule_tables.specs.TablesOf.{IsCellOf};
 
 use crate::cell_names::cell_name;
-use crate::tables::{SymbolClass, SymbolRow};
+use crate::table::{SymbolClass, SymbolRow};
 use lido_base::{List, Memory, Strings};
 use lido_syntax::RuleItem;
 use std::alloc::Global;

@@ -1,5 +1,5 @@
 //! The computations in force in the plain rules of a specification.
-use crate::tables::Tables;
+use crate::table::Tables;
 use lido_base::{AttrId, List};
 
 /// The tables of a specification with the computations in force.

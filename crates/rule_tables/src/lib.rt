@@ -13,11 +13,11 @@ mod root;
 mod rows;
 mod rule_shapes;
 mod symbol_kinds;
-mod tables;
+mod table;
 mod written;
 
 pub use assembly::tables_of;
 pub use extra::{Extra, ExtraAttr, ExtraComp, Piece, Slot, SlotAt, Term};
 pub use forced::{Force, Forced, Goal};
 pub use laws::decided_needs;
-pub use tables::{SymbolClass, SymbolRow, Tables};
+pub use table::{SymbolClass, SymbolRow, Tables};

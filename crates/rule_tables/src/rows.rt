@@ -14,7 +14,7 @@ ghost use Rattle.rule_tables.specs.TablesOf.{IsRowOf};
 
 use crate::direct_classes::{direct_classes, inherited_names};
 use crate::symbol_kinds::{TermTypes, class_of};
-use crate::tables::SymbolRow;
+use crate::table::SymbolRow;
 use flat_grammar::FlatAttr;
 use kind_clashes::NameSets;
 use lido_base::{List, Memory, StrId};

@@ -8,7 +8,7 @@ ghost use Rattle.table_faults.specs.Faults.{IsKnown};
 ghost use Rattle.rule_tables.specs.SymbolKinds.{type_in, AreTermTypes};
 ghost use Rattle.rule_tables.specs.TablesOf.{IsSymbolClass};
 
-use crate::tables::SymbolClass;
+use crate::table::SymbolClass;
 use kind_clashes::NameSets;
 use lido_base::{Memory, StrId, ValueType};
 use lido_syntax::Typed1;

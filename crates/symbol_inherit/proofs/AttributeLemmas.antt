@@ -10,8 +10,8 @@ use Rattle.flat_grammar.specs.declared.flat.FlatAttr.{FlatAttr}
 use Rattle.lido_syntax.specs.Attributes.{Has}
 use Rattle.lido_symbols.specs.Numbers.{AreNumbered, place_in}
 use Rattle.lido_symbols.specs.Uses.{attribute_uses}
-use Rattle.rule_tables.specs.declared.tables.Tables.{Tables}
-use Rattle.rule_tables.specs.declared.tables.SymbolRow.{SymbolRow}
+use Rattle.rule_tables.specs.declared.table.Tables.{Tables}
+use Rattle.rule_tables.specs.declared.table.SymbolRow.{SymbolRow}
 use Rattle.rule_tables.specs.TablesOf.{named_symbols, AreTablesOf}
 use Rattle.symbol_attributes.specs.Written.{IsWrittenAttribute}
 use Rattle.symbol_inherit.specs.Entries.{attrs_of, attrs_at}

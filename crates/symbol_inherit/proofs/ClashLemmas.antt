@@ -18,10 +18,10 @@ use Rattle.lido_syntax.specs.Attributes.{Has, HasKind}
 use Rattle.lido_syntax.specs.Computation.{Goal, Synthesized, Inherited, Start, Behind, Output, Message}
 use Rattle.lido_symbols.specs.Numbers.{place_in}
 use Rattle.kind_clashes.specs.KindClash as clash
-use Rattle.rule_tables.specs.declared.tables.Tables.{Tables}
-use Rattle.rule_tables.specs.declared.tables.SymbolRow.{SymbolRow}
-use Rattle.rule_tables.specs.declared.tables.SymbolClass.{SymbolClass}
-use Rattle.rule_tables.specs.declared.tables.SymbolClass.TheVariants as class
+use Rattle.rule_tables.specs.declared.table.Tables.{Tables}
+use Rattle.rule_tables.specs.declared.table.SymbolRow.{SymbolRow}
+use Rattle.rule_tables.specs.declared.table.SymbolClass.{SymbolClass}
+use Rattle.rule_tables.specs.declared.table.SymbolClass.TheVariants as class
 use Rattle.lido_symbols.specs.Classes.{IsClass}
 use Rattle.lido_symbols.specs.Uses.{element_name}
 use Rattle.lido_syntax.specs.declared.fault.SpecFault.{SpecFault}

@@ -8,7 +8,7 @@ use Rattle.lido_base.specs.declared.ids.StrId.{StrId}
 use Rattle.least_paths.specs.Graph.{has_edge}
 use Rattle.lido_syntax.specs.declared.fault.SpecFault.{SpecFault}
 use Rattle.lido_syntax.specs.declared.fault.SpecFault.TheVariants as fault
-use Rattle.rule_tables.specs.declared.tables.Tables.{Tables}
+use Rattle.rule_tables.specs.declared.table.Tables.{Tables}
 use Rattle.rule_tables.specs.Needs.{Tables as Numbered}
 use Rattle.rule_tables.specs.TablesOf.{named_symbols, AreTablesOf}
 use Rattle.rule_tables.specs.InForceFaults.{is_heir, IsClassCycle}

@@ -15,8 +15,8 @@ use Rattle.lido_syntax.specs.Production.{name_of}
 use Rattle.lido_syntax.specs.Computation as written
 use Rattle.lido_syntax.specs.Computation.{Synthesized, Inherited, Start, Behind, Output, Message, Holder, by_rule, by_symbol, InForce, of_rule, of_symbol, of_class, IsGoalAt}
 use Rattle.lido_syntax.proofs.ComputationLemmas.{one_in_force}
-use Rattle.rule_tables.specs.declared.tables.Tables.{Tables}
-use Rattle.rule_tables.specs.declared.tables.SymbolRow.{SymbolRow}
+use Rattle.rule_tables.specs.declared.table.Tables.{Tables}
+use Rattle.rule_tables.specs.declared.table.SymbolRow.{SymbolRow}
 use Rattle.rule_tables.specs.declared.forced.Force.{Force as Entry}
 use Rattle.rule_tables.specs.declared.forced.Goal.{Goal}
 use Rattle.rule_tables.specs.declared.forced.Goal.TheVariants as goal

@@ -12,8 +12,8 @@ use Rattle.lido_syntax.specs.Completeness.{IsSingle}
 use Rattle.lido_syntax.specs.Computation as written
 use Rattle.lido_syntax.specs.Computation.{IsGoalAt}
 use Rattle.lido_syntax.proofs.SetsLemmas.{sets_of}
-use Rattle.rule_tables.specs.declared.tables.Tables.{Tables}
-use Rattle.rule_tables.specs.declared.tables.SymbolRow.{SymbolRow}
+use Rattle.rule_tables.specs.declared.table.Tables.{Tables}
+use Rattle.rule_tables.specs.declared.table.SymbolRow.{SymbolRow}
 use Rattle.rule_tables.specs.declared.forced.Force.{Force as Entry}
 use Rattle.rule_tables.specs.declared.forced.Goal.{Goal}
 use Rattle.rule_tables.specs.declared.forced.Goal.TheVariants as goal

@@ -7,7 +7,7 @@ use Rattle.lido_syntax.specs.declared.spec.Comp.{Comp}
 use Rattle.lido_syntax.specs.declared.spec.RuleItem.{RuleItem}
 use Rattle.lido_syntax.specs.Computation.{Holder, by_rule, by_symbol, InForce, of_rule, of_symbol, of_class, IsGoalOf, HasInRule}
 use Rattle.lido_syntax.specs.Completeness.{IsSingle}
-use Rattle.rule_tables.specs.declared.tables.Tables.{Tables}
+use Rattle.rule_tables.specs.declared.table.Tables.{Tables}
 use Rattle.rule_tables.specs.TablesOf.{named_symbols, AreTablesOf}
 use Rattle.rule_tables.specs.Needs.{Tables as Numbered}
 use Rattle.computation_aims.specs.Aims.{goal_of}

@@ -25,7 +25,7 @@ use Rattle.lido_syntax.specs.Attributes.{Use, uses, reads, target_uses, possible
 use Rattle.lido_syntax.specs.Computation.{Goal, Synthesized, Inherited, Start, Behind, Output, Message, Holder, InForce, of_rule, of_symbol, of_class, IsRuleTarget, IsSymbolTarget}
 use Rattle.kind_clashes.specs.KindClash.{IsKindClash}
 use Rattle.kind_clashes.specs.KindClash as clash
-use Rattle.rule_tables.specs.declared.tables.Tables.{Tables}
+use Rattle.rule_tables.specs.declared.table.Tables.{Tables}
 use Rattle.rule_tables.specs.declared.forced.Force.{Force as Entry}
 use Rattle.rule_tables.specs.declared.forced.Goal.{Goal as Asked}
 use Rattle.rule_tables.specs.declared.forced.Goal.TheVariants as asked

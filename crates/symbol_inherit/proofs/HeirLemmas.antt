@@ -14,8 +14,8 @@ use Rattle.least_paths.specs.Graph.{IsGraph, has_edge, row_of, is_in}
 use Rattle.lido_syntax.specs.Sets.{Inherits, inherits_directly}
 use Rattle.lido_symbols.specs.Numbers.{place_in}
 use Rattle.lido_symbols.specs.Uses.{symbol_uses}
-use Rattle.rule_tables.specs.declared.tables.Tables.{Tables}
-use Rattle.rule_tables.specs.declared.tables.SymbolRow.{SymbolRow}
+use Rattle.rule_tables.specs.declared.table.Tables.{Tables}
+use Rattle.rule_tables.specs.declared.table.SymbolRow.{SymbolRow}
 use Rattle.rule_tables.specs.PlainRules.{number}
 use Rattle.rule_tables.specs.Needs.{Tables as Numbered}
 use Rattle.rule_tables.specs.InForceFaults.{inherits_of, is_heir}

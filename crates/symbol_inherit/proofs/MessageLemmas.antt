@@ -10,7 +10,7 @@ use Rattle.lido_syntax.specs.declared.spec.Target.TheVariants as target
 use Rattle.lido_syntax.specs.declared.spec.Place.TheVariants as place
 use Rattle.lido_syntax.specs.Computation.{Output, Message, Holder, by_rule, InForce, of_rule, of_symbol, of_class, InRule, IsRuleTarget, IsSymbolTarget, is_message, messages_of}
 use Rattle.lido_syntax.specs.Completeness.{IsSingle}
-use Rattle.rule_tables.specs.declared.tables.Tables.{Tables}
+use Rattle.rule_tables.specs.declared.table.Tables.{Tables}
 use Rattle.rule_tables.specs.declared.forced.Force.{Force as Entry}
 use Rattle.rule_tables.specs.declared.forced.Goal.{Goal as Asked}
 use Rattle.rule_tables.specs.declared.forced.Goal.TheVariants as asked

@@ -16,7 +16,7 @@ use Rattle.lido_syntax.specs.Computation.{Synthesized, Inherited, IsGoalAt, HasC
 use Rattle.lido_symbols.specs.Numbers.{place_in}
 use Rattle.computation_aims.specs.Aims.{goal_of}
 use Rattle.computation_aims.specs.declared.aims.Aim.{Aim}
-use Rattle.rule_tables.specs.declared.tables.Tables.{Tables}
+use Rattle.rule_tables.specs.declared.table.Tables.{Tables}
 use Rattle.rule_tables.specs.Needs.{Tables as Numbered}
 use Rattle.symbol_attributes.specs.Written.{IsWrittenAttribute}
 use Rattle.rule_tables.specs.InForceFaults.{IsBefore, IsMissing, left, right, root, IsMissingComputation}

@@ -10,7 +10,7 @@ use Rattle.lido_syntax.specs.declared.fault.SpecFault.TheVariants as fault
 use Rattle.lido_symbols.specs.FromText.{IsFromText}
 use Rattle.kind_clashes.specs.KindClash.{IsKindClash}
 use Rattle.table_faults.specs.Faults.{table_faults}
-use Rattle.rule_tables.specs.declared.tables.Tables.{Tables}
+use Rattle.rule_tables.specs.declared.table.Tables.{Tables}
 use Rattle.rule_tables.specs.Needs.{Tables as Numbered}
 use Rattle.rule_tables.specs.TablesOf.{named_symbols, AreTablesOf}
 use Rattle.rule_tables.specs.InForceFaults.{IsClassCycle, IsClashInherited, in_force_faults}

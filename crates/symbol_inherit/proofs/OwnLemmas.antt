@@ -12,7 +12,7 @@ use Rattle.lido_syntax.specs.declared.spec.SymbolItem.{SymbolItem}
 use Rattle.lido_syntax.specs.Production.{name_of}
 use Rattle.lido_syntax.specs.Sets.{names_of}
 use Rattle.lido_syntax.specs.Computation.{IsSymbolTarget}
-use Rattle.rule_tables.specs.declared.tables.Tables.{Tables}
+use Rattle.rule_tables.specs.declared.table.Tables.{Tables}
 use Rattle.rule_tables.specs.TablesOf.{named_symbols, AreTablesOf}
 use Rattle.computation_aims.specs.Aims.{goal_of, aim_in_symbol}
 use Rattle.computation_aims.proofs.SymbolAims.{aim-target, target-aim}

@@ -18,7 +18,7 @@ use Rattle.lido_syntax.specs.declared.spec.Element.TheVariants.{Symbol, Literal}
 use Rattle.lido_syntax.specs.Production.{name_of, left_of, right_of, symbol_of, symbols_of, CanStandAt}
 use Rattle.lido_symbols.specs.Numbers.{enumerated}
 use Rattle.lido_symbols.specs.Uses.{element_name, production_names, symbols_of_rule, symbols_of_item, symbols_of_computation, is_coordinate_of_rule, with_place}
-use Rattle.rule_tables.specs.declared.tables.Tables.{Tables}
+use Rattle.rule_tables.specs.declared.table.Tables.{Tables}
 use Rattle.rule_tables.specs.PlainRules.{Whole, number, written_rule, cell_rules, plain_rules, IsShapeOf}
 use Rattle.rule_tables.specs.Forced.{IsWrittenAt}
 use Rattle.rule_tables.specs.TablesOf.{named_symbols, AreTablesOf, IsPlainOf}

@@ -14,7 +14,7 @@ use Rattle.flat_grammar.specs.declared.flat.FlatRule.{FlatRule}
 use Rattle.lido_syntax.specs.declared.spec.RuleItem.{RuleItem}
 use Rattle.lido_syntax.specs.Production.{left_of, right_of}
 use Rattle.lido_symbols.specs.Numbers.{enumerated, different}
-use Rattle.rule_tables.specs.declared.tables.Tables.{Tables}
+use Rattle.rule_tables.specs.declared.table.Tables.{Tables}
 use Rattle.rule_tables.specs.PlainRules.{PlainRule, Role, Whole, Listing, Link, End, symbol_at, number, cell, written_rule, cell_rules, plain_rules}
 use Rattle.rule_tables.specs.Forced.{IsWrittenAt}
 use Rattle.rule_tables.specs.TablesOf.{named_symbols, AreTablesOf, IsPlainOf}

@@ -10,10 +10,10 @@ use Rattle.lido_base.proofs.Lists.{contains-nil, contains-cons, contains-here, c
 use Rattle.lido_syntax.specs.declared.spec.RuleItem.{RuleItem}
 use Rattle.lido_symbols.specs.Numbers.{AreNumbered, enumerated}
 use Rattle.lido_symbols.specs.Uses.{symbol_uses}
-use Rattle.rule_tables.specs.declared.tables.Tables.{Tables}
-use Rattle.rule_tables.specs.declared.tables.SymbolRow.{SymbolRow}
-use Rattle.rule_tables.specs.declared.tables.SymbolClass.{SymbolClass}
-use Rattle.rule_tables.specs.declared.tables.SymbolClass.TheVariants as class
+use Rattle.rule_tables.specs.declared.table.Tables.{Tables}
+use Rattle.rule_tables.specs.declared.table.SymbolRow.{SymbolRow}
+use Rattle.rule_tables.specs.declared.table.SymbolClass.{SymbolClass}
+use Rattle.rule_tables.specs.declared.table.SymbolClass.TheVariants as class
 use Rattle.rule_tables.specs.PlainRules.{lists}
 use Rattle.rule_tables.specs.TablesOf.{named_symbols, AreTablesOf, IsSymbolClass}
 use Rattle.symbol_inherit.specs.Rows.{is_of, is_named, row_number}

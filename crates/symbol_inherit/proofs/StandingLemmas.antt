@@ -14,7 +14,7 @@ use Rattle.lido_syntax.specs.Attributes.{InBody}
 use Rattle.lido_syntax.specs.Computation.{InSymbol, HasInSymbol, IsLeft}
 use Rattle.lido_syntax.specs.Completeness.{IsSingle}
 use Rattle.lido_symbols.specs.Uses.{symbol_uses, symbols_of_rule, symbols_of_item, with_place}
-use Rattle.rule_tables.specs.declared.tables.Tables.{Tables}
+use Rattle.rule_tables.specs.declared.table.Tables.{Tables}
 use Rattle.rule_tables.specs.TablesOf.{named_symbols, AreTablesOf}
 use Rattle.rule_tables.specs.Needs.{Tables as Numbered}
 use Rattle.rule_tables.specs.InForceFaults.{IsLeftAt}

@@ -15,7 +15,7 @@ use Rattle.lido_syntax.specs.Computation as written
 use Rattle.lido_syntax.specs.Computation.{InForce, InRule, IsRuleTarget}
 use Rattle.computation_aims.specs.Aims.{goal_of}
 use Rattle.computation_aims.specs.declared.aims.Aim.{Aim}
-use Rattle.rule_tables.specs.declared.tables.Tables.{Tables}
+use Rattle.rule_tables.specs.declared.table.Tables.{Tables}
 use Rattle.rule_tables.specs.declared.forced.Force.{Force as Entry}
 use Rattle.rule_tables.specs.declared.forced.Goal.{Goal}
 use Rattle.rule_tables.specs.declared.forced.Goal.TheVariants as goal

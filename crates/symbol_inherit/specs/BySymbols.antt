@@ -1,6 +1,6 @@
 -- The symbols of tables with their numbers.
 use Rattle.std.specs.Prelude.{◌≡◌, length}
-use Rattle.rule_tables.specs.declared.tables.Tables.{Tables}
+use Rattle.rule_tables.specs.declared.table.Tables.{Tables}
 use Rattle.rule_tables.specs.TablesOf.{named_symbols}
 use Rattle.symbol_inherit.specs.Classes.{AreHeirs}
 use Rattle.symbol_inherit.specs.Symbols.{HasOwn}

@@ -9,7 +9,7 @@ use Rattle.lido_syntax.specs.declared.spec.Spec.{Spec}
 use Rattle.lido_syntax.specs.Computation.{Goal, HasInSymbol, IsLeft}
 use Rattle.lido_symbols.specs.Numbers.{AreNumbered}
 use Rattle.lido_symbols.specs.Uses.{attribute_uses}
-use Rattle.rule_tables.specs.declared.tables.Tables.{Tables}
+use Rattle.rule_tables.specs.declared.table.Tables.{Tables}
 use Rattle.rule_tables.specs.TablesOf.{named_symbols}
 use Rattle.rule_tables.specs.Needs.{Tables as Numbered}
 use Rattle.rule_tables.specs.InForceFaults.{IsBefore, name_in, goal_place, IsClash, AreFirstTwo, IsClashInherited}

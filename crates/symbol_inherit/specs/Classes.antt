@@ -5,8 +5,8 @@ use Rattle.lido_base.specs.Reach.{Reaches}
 use Rattle.lido_base.specs.declared.ids.SymId.{SymId}
 use Rattle.least_paths.specs.Graph.{has_edge}
 use Rattle.lido_syntax.specs.Sets.{Inherits}
-use Rattle.rule_tables.specs.declared.tables.SymbolRow.{SymbolRow}
-use Rattle.rule_tables.specs.declared.tables.Tables.{Tables}
+use Rattle.rule_tables.specs.declared.table.SymbolRow.{SymbolRow}
+use Rattle.rule_tables.specs.declared.table.Tables.{Tables}
 use Rattle.rule_tables.specs.TablesOf.{named_symbols}
 use Rattle.symbol_inherit.specs.Index.{noted}
 use Rattle.computation_aims.specs.declared.aims.Aim.{Aim}

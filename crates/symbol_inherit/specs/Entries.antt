@@ -10,8 +10,8 @@ use Rattle.lido_syntax.specs.declared.spec.Target.TheVariants as target
 use Rattle.lido_syntax.specs.Production.{CanStandAt}
 use Rattle.lido_syntax.specs.Completeness.{IsSingle}
 use Rattle.kind_clashes.specs.KindClash.{IsKindClash}
-use Rattle.rule_tables.specs.declared.tables.Tables.{Tables}
-use Rattle.rule_tables.specs.declared.tables.SymbolRow.{SymbolRow}
+use Rattle.rule_tables.specs.declared.table.Tables.{Tables}
+use Rattle.rule_tables.specs.declared.table.SymbolRow.{SymbolRow}
 use Rattle.rule_tables.specs.declared.forced.Force.{Force as Entry}
 use Rattle.rule_tables.specs.declared.forced.Goal.{Goal}
 use Rattle.rule_tables.specs.declared.forced.Goal.TheVariants as goal

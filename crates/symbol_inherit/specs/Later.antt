@@ -2,7 +2,7 @@
 use Rattle.std.specs.Prelude.{[], ◌∷◌, Option, MatchOption}
 use Rattle.lido_base.specs.Faults.{HasNone, First}
 use Rattle.lido_syntax.specs.declared.fault.SpecFault.{SpecFault}
-use Rattle.rule_tables.specs.declared.tables.Tables.{Tables}
+use Rattle.rule_tables.specs.declared.table.Tables.{Tables}
 use Rattle.rule_tables.specs.Needs.{Tables as Numbered}
 use Rattle.rule_tables.specs.InForceFaults.{IsClashInherited, IsMissingComputation}
 

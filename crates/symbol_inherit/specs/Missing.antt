@@ -6,7 +6,7 @@ use Rattle.lido_syntax.specs.declared.fault.SpecFault.TheVariants as fault
 use Rattle.lido_syntax.specs.declared.spec.Spec.{Spec}
 use Rattle.lido_syntax.specs.declared.spec.RuleItem.{RuleItem}
 use Rattle.lido_symbols.specs.Numbers.{place_in}
-use Rattle.rule_tables.specs.declared.tables.Tables.{Tables}
+use Rattle.rule_tables.specs.declared.table.Tables.{Tables}
 use Rattle.rule_tables.specs.Needs.{Tables as Numbered}
 use Rattle.rule_tables.specs.InForceFaults.{IsMissing, IsMissingComputation}
 use Rattle.symbol_inherit.specs.declared.missing.MissingAt.{MissingAt}

@@ -5,7 +5,7 @@ use Rattle.lido_syntax.specs.declared.spec.Name.{Name}
 use Rattle.lido_syntax.specs.declared.spec.RuleItem.{RuleItem}
 use Rattle.lido_syntax.specs.declared.spec.SymbolItem.{SymbolItem}
 use Rattle.lido_syntax.specs.Production.{name_of}
-use Rattle.rule_tables.specs.declared.tables.SymbolRow.{SymbolRow}
+use Rattle.rule_tables.specs.declared.table.SymbolRow.{SymbolRow}
 use Rattle.symbol_inherit.specs.Rows.{row_number}
 use Rattle.computation_aims.specs.Aims.{aim_in_symbol, aim_in_rule}
 use Rattle.computation_aims.specs.declared.aims.Aim.{Aim}

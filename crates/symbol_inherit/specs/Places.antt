@@ -5,7 +5,7 @@ use Rattle.flat_grammar.specs.declared.flat.FlatRule.{FlatRule}
 use Rattle.flat_grammar.specs.declared.flat.Shape.{Shape}
 use Rattle.lido_syntax.specs.declared.spec.RuleItem.{RuleItem}
 use Rattle.lido_syntax.specs.Production.{right_of, CanStandAt}
-use Rattle.rule_tables.specs.declared.tables.Tables.{Tables}
+use Rattle.rule_tables.specs.declared.table.Tables.{Tables}
 use Rattle.rule_tables.specs.PlainRules.{Whole}
 use Rattle.rule_tables.specs.Forced.{IsWrittenAt}
 use Rattle.rule_tables.specs.TablesOf.{named_symbols}

@@ -1,9 +1,9 @@
 -- Symbols by their rows.
 use Rattle.std.specs.Prelude.{ℕ, Bool, false, nat_eq, List, Option, Some, None, slice_get, position}
 use Rattle.lido_base.specs.declared.ids.StrId.{StrId}
-use Rattle.rule_tables.specs.declared.tables.SymbolRow.{SymbolRow}
-use Rattle.rule_tables.specs.declared.tables.SymbolClass.{SymbolClass}
-use Rattle.rule_tables.specs.declared.tables.SymbolClass.TheVariants as class
+use Rattle.rule_tables.specs.declared.table.SymbolRow.{SymbolRow}
+use Rattle.rule_tables.specs.declared.table.SymbolClass.{SymbolClass}
+use Rattle.rule_tables.specs.declared.table.SymbolClass.TheVariants as class
 
 -- the row of a symbol that is this and has this name is that of s
 abbrev pub is_of : SymbolClass → ℕ → ℕ → Bool

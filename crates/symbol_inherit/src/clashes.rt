@@ -2,8 +2,8 @@
 ghost use Rattle.std.specs.Prelude.{◌≡◌, ◌↔◌, ℕ, IsTrue, Some, slice_get};
 ghost use Rattle.lido_base.specs.Environment.{Environment};
 ghost use Rattle.lido_syntax.specs.Symbols.{IsNonterminal};
-ghost use Rattle.rule_tables.specs.declared.tables.Tables.{Tables as Rows};
-ghost use Rattle.rule_tables.specs.declared.tables.SymbolClass.TheVariants as Classed;
+ghost use Rattle.rule_tables.specs.declared.table.Tables.{Tables as Rows};
+ghost use Rattle.rule_tables.specs.declared.table.SymbolClass.TheVariants as Classed;
 ghost use Rattle.rule_tables.specs.Needs.{Tables as Numbered};
 ghost use Rattle.rule_tables.specs.TablesOf.{named_symbols};
 ghost use Rattle.computation_aims.specs.Aims.{goal_of};

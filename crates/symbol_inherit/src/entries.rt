@@ -5,7 +5,7 @@ ghost use Rattle.lido_syntax.specs.declared.spec.RuleItem.{RuleItem as Rule};
 ghost use Rattle.lido_syntax.specs.Computation.{is_message as gives_message, messages_of};
 ghost use Rattle.lido_syntax.specs.declared.spec.Target.TheVariants as Aimed;
 ghost use Rattle.lido_syntax.specs.Completeness.{IsSingle};
-ghost use Rattle.rule_tables.specs.declared.tables.Tables.{Tables as Rows};
+ghost use Rattle.rule_tables.specs.declared.table.Tables.{Tables as Rows};
 ghost use Rattle.rule_tables.specs.PlainRules.{PlainRule};
 ghost use Rattle.rule_tables.specs.ForcedOf.{IsAttributeAt, IsChainAt};
 ghost use Rattle.symbol_inherit.specs.Rules.{HasRule, HasRuleAt};

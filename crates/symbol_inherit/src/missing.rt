@@ -7,7 +7,7 @@ ghost use Rattle.lido_syntax.specs.Production.{left_of};
 ghost use Rattle.lido_syntax.specs.Symbols.{IsRoot};
 ghost use Rattle.lido_syntax.specs.Computation.{HasComputation};
 ghost use Rattle.kind_clashes.specs.Sets.{AreNameSets};
-ghost use Rattle.rule_tables.specs.declared.tables.Tables.{Tables as Rows};
+ghost use Rattle.rule_tables.specs.declared.table.Tables.{Tables as Rows};
 ghost use Rattle.rule_tables.specs.Needs.{Tables as Numbered};
 ghost use Rattle.symbol_attributes.specs.Written.{IsWrittenAttribute};
 ghost use Rattle.rule_tables.specs.InForceFaults.{IsMissing};

@@ -1,5 +1,5 @@
 //! The first fault of the tables.
-ghost use Rattle.std.specs.Prelude.{◌≡◌, ◌⊎◌, ◌<◌, ◌^◌, IfOk, IfErr, length};
+ghost use Rattle.std.specs.Prelude.{◌≡◌, ◌⊎◌, IfOk, IfErr};
 ghost use Rattle.lido_base.specs.Environment.{Environment};
 ghost use Rattle.lido_base.specs.Faults.{HasNone, First};
 ghost use Rattle.kind_clashes.specs.Sets.{AreNameSets};
@@ -30,7 +30,7 @@ fn check_names(
     strings: &Strings,
 ) -> Result<(), SpecFault>
     requires sets { AreNameSets spec.now sets.now }
-    requires few { length spec.now.rules < 2 ^ 32 }
+    requires text { IsFromText spec.now }
     ensures ok { IfOk result (λ done. (env : Environment) → env.texts ≡ strings.now → HasNone (name_faults spec.now env)) }
     ensures err { IfErr result (λ f. (f ≡ fault.Memory) ⊎ ((env : Environment) → env.texts ≡ strings.now → First (name_faults spec.now env) f)) }
 {
@@ -99,7 +99,6 @@ fn check_kinds(alloc: Global, spec: &Spec, strings: &Strings) -> Result<(), Spec
 /// RootNotOne, KindClash, BadIndex, DoubleComputation, BadOut or TooMany, in this order, each at its least place.
 pub fn check(alloc: Global, spec: &Spec, strings: &Strings) -> Result<(), SpecFault>
     requires text { IsFromText spec.now }
-    requires few { length spec.now.rules < 2 ^ 32 }
     ensures ok { IfOk result (λ done. (env : Environment) → env.texts ≡ strings.now → HasNone (table_faults spec.now env)) }
     ensures err { IfErr result (λ f. (f ≡ fault.Memory) ⊎ ((env : Environment) → env.texts ≡ strings.now → First (table_faults spec.now env) f)) }
 {

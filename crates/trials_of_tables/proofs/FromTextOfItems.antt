@@ -70,4 +70,5 @@ from_text = record {
   including_pairs = all-of (λ (x : ℕ × List Pair). 0 < length x.1) (all_includings spec) (omega arith, tt);
   constituents_pairs = all-of (λ (x : ℕ × Cons). 0 < length x.1.pairs) (all_constituents spec) (omega arith, tt);
   elements = each-of (λ (r : RuleItem). r.list ≡ true → 0 < length r.right) spec.rules ((λ e. omega arith), ((λ e. omega arith), tt));
+  few_rules = omega arith;
 }

@@ -1,6 +1,6 @@
 use Rattle.std.proofs.Common.{ℕ, [], refl}
-use Rattle.rule_tables.specs.declared.tables.SymbolRow.{SymbolRow}
-use Rattle.rule_tables.specs.declared.tables.SymbolClass.TheVariants as class
+use Rattle.rule_tables.specs.declared.table.SymbolRow.{SymbolRow}
+use Rattle.rule_tables.specs.declared.table.SymbolClass.TheVariants as class
 use Rattle.chain_expand.specs.Attrs.{symbol_attrs}
 use Rattle.need_graphs.proofs.ListLemmas.{numbered-more}
 use Rattle.chain_expand.proofs.attrs.all_attrs.Goals as goal

@@ -3,7 +3,7 @@ use Rattle.std.specs.Prelude.{slice_get}
 use Rattle.lido_base.specs.Environment.{Environment}
 use Rattle.flat_grammar.specs.declared.flat.FlatAttr.{FlatAttr}
 use Rattle.computation_aims.specs.Aims.{goal_of}
-use Rattle.rule_tables.specs.declared.tables.Tables.{Tables}
+use Rattle.rule_tables.specs.declared.table.Tables.{Tables}
 use Rattle.rule_tables.specs.Needs.{Tables as Numbered}
 use Rattle.rule_tables.specs.TablesOf.{named_symbols}
 use Rattle.symbol_inherit.specs.Entries.{AreKnown}

@@ -3,7 +3,7 @@ use Rattle.std.specs.Prelude.{slice_get}
 use Rattle.lido_base.specs.Environment.{Environment}
 use Rattle.lido_syntax.specs.declared.spec.Typed1.{Typed1}
 use Rattle.computation_aims.specs.Aims.{goal_of}
-use Rattle.rule_tables.specs.declared.tables.Tables.{Tables}
+use Rattle.rule_tables.specs.declared.table.Tables.{Tables}
 use Rattle.rule_tables.specs.Needs.{Tables as Numbered}
 use Rattle.rule_tables.specs.TablesOf.{named_symbols}
 use Rattle.symbol_inherit.specs.Entries.{chain_way, AreKnown}

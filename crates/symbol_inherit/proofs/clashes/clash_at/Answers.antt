@@ -1,7 +1,7 @@
 use Rattle.std.proofs.Common.{◌≡◌, ◌≤◌, ◌∙◌, sym, ap, subst, refl, length, List, Some, arith}
 use Rattle.std.specs.Prelude.{slice_get}
 use Rattle.std.proofs.lemmas.Option.{slice_get_read, slice_get_within}
-use Rattle.rule_tables.specs.declared.tables.SymbolRow.{SymbolRow}
+use Rattle.rule_tables.specs.declared.table.SymbolRow.{SymbolRow}
 use Rattle.symbol_inherit.proofs.RowLemmas.{number-named}
 use Rattle.symbol_inherit.proofs.clashes.clash_at.Goals as goal
 

@@ -4,7 +4,7 @@ use Rattle.least_paths.specs.Graph.{IsGraph, has_edge}
 use Rattle.lido_base.specs.Reach.{IsLeastCycle, IsClosedPath}
 use Rattle.lido_base.specs.declared.ids.StrId.{StrId}
 use Rattle.lido_syntax.specs.declared.fault.SpecFault.TheVariants as Fault
-use Rattle.rule_tables.specs.declared.tables.SymbolRow.{SymbolRow}
+use Rattle.rule_tables.specs.declared.table.SymbolRow.{SymbolRow}
 use Rattle.rule_tables.specs.InForceFaults.{IsClassCycle}
 use Rattle.symbol_inherit.specs.Classes.{graph_of}
 use Rattle.symbol_inherit.specs.Rows.{name_in}

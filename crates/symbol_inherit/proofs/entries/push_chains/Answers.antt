@@ -3,7 +3,7 @@ use Rattle.std.specs.Prelude.{slice_get, true, false}
 use Rattle.std.proofs.lemmas.Option.{slice_get-get_or}
 use Rattle.lido_base.specs.declared.value.ValueType.TheVariants as type
 use Rattle.lido_syntax.specs.declared.spec.Typed1.{Typed1}
-use Rattle.rule_tables.specs.declared.tables.Tables.{Tables}
+use Rattle.rule_tables.specs.declared.table.Tables.{Tables}
 use Rattle.rule_tables.specs.declared.forced.Force.{Force as Entry}
 use Rattle.rule_tables.specs.PlainRules.{PlainRule}
 use Rattle.rule_tables.specs.ForcedOf.{kind_of}

@@ -2,7 +2,7 @@ use Rattle.std.proofs.Common.{◌≡◌, ◌+◌, ℕ, take, length, filter}
 use Rattle.lido_syntax.specs.declared.spec.RuleItem.{RuleItem}
 use Rattle.lido_syntax.specs.Computation.{is_message}
 use Rattle.lido_syntax.specs.Completeness.{IsSingle}
-use Rattle.rule_tables.specs.declared.tables.Tables.{Tables}
+use Rattle.rule_tables.specs.declared.table.Tables.{Tables}
 use Rattle.rule_tables.specs.PlainRules.{PlainRule}
 use Rattle.symbol_inherit.specs.Entries.{AreUpTo, IsOccurrenceOf}
 use Rattle.symbol_inherit.proofs.entries.push_messages.Given as goal

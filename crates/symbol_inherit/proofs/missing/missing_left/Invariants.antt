@@ -5,7 +5,7 @@ use Rattle.flat_grammar.specs.declared.flat.FlatAttr.{FlatAttr}
 use Rattle.lido_syntax.specs.declared.spec.RuleItem.{RuleItem}
 use Rattle.lido_syntax.specs.Production.{left_of}
 use Rattle.lido_syntax.specs.Symbols.{IsRoot}
-use Rattle.rule_tables.specs.declared.tables.Tables.{Tables}
+use Rattle.rule_tables.specs.declared.table.Tables.{Tables}
 use Rattle.rule_tables.specs.Needs.{Tables as Numbered}
 use Rattle.rule_tables.specs.InForceFaults.{IsMissing}
 use Rattle.symbol_inherit.specs.Rules.{HasRuleAt}

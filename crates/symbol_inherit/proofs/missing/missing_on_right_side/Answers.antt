@@ -1,7 +1,7 @@
 use Rattle.std.proofs.Common.{◌≡◌, ◌+◌, ◌∙◌, ap, sym, subst, length, get_or, List}
 use Rattle.std.proofs.lemmas.Option.{slice_get-get_or}
 use Rattle.lido_base.specs.declared.ids.SymId.{SymId}
-use Rattle.rule_tables.specs.declared.tables.SymbolRow.{SymbolRow}
+use Rattle.rule_tables.specs.declared.table.SymbolRow.{SymbolRow}
 use Rattle.symbol_inherit.specs.Entries.{attrs_at}
 use Rattle.symbol_inherit.specs.Places.{IsPlaceIn}
 use Rattle.symbol_inherit.specs.Missing.{IsMissingAt}

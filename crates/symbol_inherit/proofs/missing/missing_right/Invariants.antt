@@ -3,7 +3,7 @@ use Rattle.std.specs.Prelude.{slice_get}
 use Rattle.lido_base.specs.Environment.{Environment}
 use Rattle.flat_grammar.specs.declared.flat.FlatAttr.{FlatAttr}
 use Rattle.lido_syntax.specs.declared.spec.RuleItem.{RuleItem}
-use Rattle.rule_tables.specs.declared.tables.Tables.{Tables}
+use Rattle.rule_tables.specs.declared.table.Tables.{Tables}
 use Rattle.rule_tables.specs.Needs.{Tables as Numbered}
 use Rattle.rule_tables.specs.InForceFaults.{IsMissing}
 use Rattle.symbol_inherit.specs.Rules.{HasRuleAt}

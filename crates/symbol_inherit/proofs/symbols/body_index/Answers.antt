@@ -1,6 +1,6 @@
 use Rattle.std.proofs.Common.{◌∙◌, ap, subst, List}
 use Rattle.lido_syntax.specs.declared.spec.SymbolItem.{SymbolItem}
-use Rattle.rule_tables.specs.declared.tables.SymbolRow.{SymbolRow}
+use Rattle.rule_tables.specs.declared.table.SymbolRow.{SymbolRow}
 use Rattle.symbol_inherit.specs.Notes.{all_notes}
 use Rattle.symbol_inherit.specs.Index.{Holds}
 use Rattle.symbol_inherit.specs.declared.notes.Note.{Note}

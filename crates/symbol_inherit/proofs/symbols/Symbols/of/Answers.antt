@@ -1,7 +1,7 @@
 use Rattle.std.specs.Prelude.{filter_map}
 use Rattle.std.proofs.Common.{◌∙◌, ap, sym, subst, length, List}
 use Rattle.least_paths.specs.Graph.{IsGraph}
-use Rattle.rule_tables.specs.declared.tables.SymbolRow.{SymbolRow}
+use Rattle.rule_tables.specs.declared.table.SymbolRow.{SymbolRow}
 use Rattle.rule_tables.specs.TablesOf.{symbol_named}
 use Rattle.symbol_inherit.specs.Classes.{graph_of, HasReaching}
 use Rattle.symbol_inherit.proofs.HeirLemmas.{is-graph, are-heirs}

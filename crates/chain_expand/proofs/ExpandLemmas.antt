@@ -18,7 +18,7 @@ use Rattle.rule_tables.specs.Shares.{ChainShare}
 use Rattle.rule_tables.specs.ExtraOf.{IsExtra, IsOfChains}
 use Rattle.chain_expand.specs.declared.walk.Walk.{Walk}
 use Rattle.chain_expand.specs.Attrs.{all_attrs}
-use Rattle.chain_expand.specs.Clear.{AreClear}
+use Rattle.need_graphs.specs.Clear.{AreClear}
 use Rattle.chain_expand.specs.Comps.{walks_at, all_comps}
 use Rattle.chain_expand.specs.Needed.{IsNeedOf, AreNeedsOf}
 use Rattle.chain_expand.specs.Walks.{IsWalk, AreWalks, AreAllWalks, has_node_in}

@@ -25,7 +25,7 @@ use Rattle.rule_tables.specs.Slots.{Slot, Written, Inc, Con, Front, Behind, Msg,
 use Rattle.rule_tables.specs.ExtraOf.{IsExtraAttr, IsOfChains}
 use Rattle.rule_tables.proofs.SlotLemmas.{enumerated-at}
 use Rattle.chain_expand.specs.Attrs.{needs_at, chain_attrs, symbol_attrs, all_attrs}
-use Rattle.chain_expand.specs.Clear.{AreClear}
+use Rattle.need_graphs.specs.Clear.{AreClear}
 use Rattle.chain_expand.specs.Needed.{IsNeedOf, AreNeedsOf}
 use Rattle.chain_expand.proofs.AttrLemmas.{two, front_attr, behind_attr}
 use Rattle.chain_expand.proofs.OrderLemmas.{attr-cases}

@@ -27,7 +27,7 @@ use Rattle.rule_tables.specs.Slots.{chains}
 use Rattle.rule_tables.specs.ExpansionFaults.{IsRootNumber, IsNameOf, IsChainNoStart}
 use Rattle.rule_tables.specs.TablesOf.{named_symbols}
 use Rattle.rule_tables.proofs.SlotLemmas.{number-at_place}
-use Rattle.chain_expand.specs.Clear.{AreClear}
+use Rattle.need_graphs.specs.Clear.{AreClear}
 use Rattle.chain_expand.specs.Needed.{AreNeedsOf, HasNoPath, IsFirstFault, name_in}
 use Rattle.chain_expand.proofs.ExtraLemmas.{needing-below, past, list-rule}
 use Rattle.chain_expand.proofs.OrderLemmas.{some-mapped}

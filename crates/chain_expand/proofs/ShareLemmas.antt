@@ -39,7 +39,7 @@ use Rattle.rule_tables.specs.TablesOf.{named_symbols, IsPlainOf, IsSymbolClass}
 use Rattle.rule_tables.proofs.SlotLemmas.{zip-at}
 use Rattle.chain_expand.specs.declared.walk.Source.{Source}
 use Rattle.chain_expand.specs.declared.walk.Walk.{Walk}
-use Rattle.chain_expand.specs.Clear.{AreClear}
+use Rattle.need_graphs.specs.Clear.{AreClear}
 use Rattle.chain_expand.specs.Comps.{term_of, front_in, behind_comp, front_comp, behind_comps, front_comps, rule_comps, walks_at, all_comps}
 use Rattle.chain_expand.specs.Needed.{AreNeedsOf}
 use Rattle.chain_expand.specs.Walks.{IsWalk, AreWalks, AreAllWalks, has_node_in, is_node_in, is_node_class, needing, number_of, starts_at, assigns_at, source_of, front_source, behind_source, if_needed}

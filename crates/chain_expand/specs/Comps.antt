@@ -1,5 +1,5 @@
 -- The computations of what chains have in the plain rules, as their walks give them.
-use Rattle.std.specs.Prelude.{ℕ, suc, ◌≤◌, List, [], ◌++◌, flat_map, filter_map, length, Option, None, option_map, slice_get, unwrap_or, Contains}
+use Rattle.std.specs.Prelude.{ℕ, suc, List, [], ◌++◌, flat_map, filter_map, Option, None, option_map, slice_get, unwrap_or}
 use Rattle.lido_base.specs.declared.ids.SymId.{SymId}
 use Rattle.flat_grammar.specs.declared.flat.FlatRule.{FlatRule}
 use Rattle.lido_symbols.specs.Numbers.{enumerated}
@@ -43,8 +43,3 @@ walks_at walks k = unwrap_or (slice_get walks k) []
 
 abbrev pub all_comps : List (List Walk) → List FlatRule → List ExtraComp
 all_comps walks plain = flat_map (λ (x : ℕ × FlatRule). rule_comps (walks_at walks x.0) x) (enumerated 0 plain)
-
--- there are so few rules, and on each right side so few symbols, that u16 numbers them
-pub record AreFew (plain : List FlatRule) : Type 0 where
-  pub rules : length plain ≤ 1024
-  pub right : (rule : FlatRule) → Contains plain rule → length rule.right ≤ 1024

@@ -10,7 +10,7 @@ use Rattle.rule_tables.specs.ExpansionFaults.{IsChainNoStart}
 use Rattle.lido_syntax.specs.declared.fault.SpecFault.{SpecFault}
 use Rattle.chain_expand.specs.declared.expand.Expansion.{Expansion}
 use Rattle.chain_expand.specs.declared.expand.Expansion.TheVariants as expansion
-use Rattle.chain_expand.specs.Clear.{AreClear}
+use Rattle.need_graphs.specs.Clear.{AreClear}
 
 -- These are exactly the attributes of chains with their kinds and types, and in each plain rule its share of computations.
 abbrev pub IsExtraOf : Forced → Extra → Type 0

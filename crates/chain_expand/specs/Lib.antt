@@ -2,5 +2,4 @@ pub mod Walks
 pub mod Comps
 pub mod Attrs
 pub mod Needed
-pub mod Clear
 pub mod Expanded

@@ -1,6 +1,7 @@
 //! The computations of what chains have in plain rules.
 ghost use Rattle.std.specs.Prelude.{◌≡◌, ◌<◌, ◌≤◌, ◌^◌, ◌++◌, ℕ, length, IfOk, OnOk};
-ghost use Rattle.chain_expand.specs.Comps.{term_of, front_in, behind_comps, front_comps, rule_comps, walks_at as walks_of, all_comps as all_of, AreFew};
+ghost use Rattle.need_graphs.specs.Clear.{AreFew};
+ghost use Rattle.chain_expand.specs.Comps.{term_of, front_in, behind_comps, front_comps, rule_comps, walks_at as walks_of, all_comps as all_of};
 
 use crate::walk::{Source, Walk};
 use flat_grammar::FlatRule;

@@ -3,7 +3,7 @@ ghost use Rattle.std.specs.Prelude.{◌≡◌, ◌⊎◌, IfOk, IfErr};
 ghost use Rattle.lido_base.specs.Environment.{Environment};
 ghost use Rattle.lido_syntax.specs.declared.fault.SpecFault.TheVariants as fault_of;
 ghost use Rattle.rule_tables.specs.ForcedOf.{AreForcedOf};
-ghost use Rattle.chain_expand.specs.Clear.{AreWithin};
+ghost use Rattle.need_graphs.specs.Clear.{AreWithin};
 ghost use Rattle.chain_expand.specs.Needed.{AreNeedsOf};
 ghost use Rattle.chain_expand.specs.Expanded.{IsExtraOf, HasNoFault, IsFaultIn, IsExpansionOf};
 

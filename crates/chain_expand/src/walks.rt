@@ -1,6 +1,6 @@
 //! The walks of all chains.
 ghost use Rattle.std.specs.Prelude.{◌≡◌, ◌≤◌, ◌^◌, length, IfOk};
-ghost use Rattle.chain_expand.specs.Comps.{AreFew};
+ghost use Rattle.need_graphs.specs.Clear.{AreFew};
 ghost use Rattle.chain_expand.specs.Walks.{AreWalks, AreAllWalks};
 
 use crate::walk::{Walk, chain_walk, has_node};

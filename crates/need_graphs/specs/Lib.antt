@@ -1,3 +1,4 @@
 pub mod Starts
 pub mod Reads
 pub mod Users
+pub mod Clear

@@ -1,0 +1,14 @@
+use Rattle.std.proofs.Common.{◌∙◌, ◌++◌, ap, sym, map}
+use Rattle.lido_symbols.proofs.CollectedLemmas.{collected_all}
+use Rattle.constituents_expand.specs.Uses.{told, uses_in}
+use Rattle.constituents_expand.proofs.UseLemmas.{uses-Call}
+use Rattle.constituents_expand.proofs.uses.+push_uses.Goals as goal
+
+pub returns-after-loop-arg : goal.returns-after-loop-arg
+returns-after-loop-arg t c =
+    let n = c.args.comp in
+    let valued = c.args.valued in
+    let args = c.as_slice-arg-items.result.now in
+    let old = map told c.args.found.now.items in
+    let all = collected_all (uses_in n valued) args c.loop-arg.arg-index old (map told c.loop-arg.found.items) c.loop-arg-test.false c.loop-arg.invariant in
+    all ∙ ap (λ l. old ++ l) (sym (ap (uses_in n valued) c.in-Call.is ∙ uses-Call n valued c.in-Call.field-0 c.in-Call.args args c.as_slice-arg-items.ensures))

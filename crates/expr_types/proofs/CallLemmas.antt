@@ -40,7 +40,7 @@ types-at-most Has (e ∷ es) (t ∷ ts) (u ∷ us) most each =
     λ i. first i ∷ more i
 
 module _ (spec : Spec) (sets : Sets spec) (env : Environment) (h : Holder) (r : RuleItem) (own : ℕ) where
-  abbrev Has : Expr → ValueType → Type 0
+  abbrev pub Has : Expr → ValueType → Type 0
   Has e ty = HasExprType spec sets env h r own e ty
 
   to-list : (m : Count) (k : whole.Row_of-Expr m) (types : List ValueType) → HaveTypes spec sets env h r own k types → HaveEach Has (whole.items-the_row-Expr m k) types
@@ -49,7 +49,7 @@ module _ (spec : Spec) (sets : Sets spec) (env : Environment) (h : Holder) (r : 
   to-list m (whole.more_of-Expr e es) [] each = absurd each
   to-list m (whole.more_of-Expr e es) (t ∷ ts) each = (each.0, to-list _ es ts each.1)
 
-  to-row : (m : Count) (k : whole.Row_of-Expr m) (types : List ValueType) → HaveEach Has (whole.items-the_row-Expr m k) types → HaveTypes spec sets env h r own k types
+  pub to-row : (m : Count) (k : whole.Row_of-Expr m) (types : List ValueType) → HaveEach Has (whole.items-the_row-Expr m k) types → HaveTypes spec sets env h r own k types
   to-row m whole.end_of-Expr [] each = tt
   to-row m whole.end_of-Expr (t ∷ ts) each = absurd each
   to-row m (whole.more_of-Expr e es) [] each = absurd each

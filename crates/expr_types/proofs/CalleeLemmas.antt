@@ -1,8 +1,10 @@
 -- What a function gives, and how many arguments it takes.
-use Rattle.std.specs.Prelude.{◌≡◌, ◌+◌, ◌-◌, ℕ, suc, ◌⊎◌, Bool, true, false, if◌then◌else◌, List, [], ◌∷◌, ◌++◌, length, Option, Some, None, option_map, slice_get, codes, Contains, refl}
+use Rattle.std.specs.Prelude.{◌≡◌, ◌+◌, ◌-◌, ℕ, suc, ◌⊎◌, Bool, true, false, if◌then◌else◌, List, [], ◌∷◌, ◌++◌, length, Option, Some, None, option_map, slice_get, codes, Contains, IfSome, IfNone, refl}
 use Rattle.std.specs.Str.{bytes_eq}
 use Rattle.std.proofs.Common.{subst, sym, ap, ◌∙◌, inl, inr, arith, append-nil, length-append}
+use Rattle.std.specs.Option.{option_eq}
 use Rattle.std.proofs.lemmas.Option.{none-some}
+use Rattle.std.proofs.lemmas.Bool.{false≢true}
 use Rattle.lido_base.specs.declared.value.ValueType.{ValueType}
 use Rattle.lido_base.specs.declared.operation.Op.{Op}
 use Rattle.lido_base.specs.declared.operation.Op.TheVariants as op
@@ -16,8 +18,9 @@ use Rattle.lido_syntax.specs.Production.{name_of}
 use Rattle.lido_syntax.specs.Functions.{text_of, operation_of}
 use Rattle.expr_types.specs.Callees.{HasOneCount}
 use Rattle.expr_types.specs.Faults.{Begins}
-use Rattle.expr_types.specs.Typing.{Function, WithRows, Order, choices, function_of, last_type}
-use Rattle.expr_types.proofs.TypingLemmas.{same-option}
+use Rattle.expr_types.specs.Typing.{Function, WithRows, Order, Gives, choices, function_of, last_type}
+use Rattle.expr_types.proofs.TypingLemmas.{same-option, one-call}
+use Rattle.expr_types.proofs.RowsLemmas.{type_eq, type-decides}
 
 -- ---- all rows have as many arguments
 
@@ -110,3 +113,14 @@ last-get (t ∷ []) = refl
 last-get (t ∷ u ∷ us) =
     let step : length (t ∷ u ∷ us) - 1 ≡ suc (length (u ∷ us) - 1) = grind arith in
     ap (slice_get (t ∷ u ∷ us)) step ∙ last-get (u ∷ us)
+
+-- ---- a function that gives something else, or nothing
+
+-- of what a function gives, if anything, another type is none
+pub gives-other : (env : Environment) (f : Name) (function : Function) (args : List ValueType) (given : Option ValueType) (ty : ValueType) → function_of env f ≡ Some function
+    → option_eq type_eq given (Some ty) ≡ false → IfSome given (λ t. Gives function args t) → IfNone given ((t : ValueType) → Gives function args t → ⊥)
+    → Gives function args ty → ⊥
+gives-other env f function args None ty known other some none g = none ty g
+gives-other env f function args (Some t) ty known other some none g =
+    let same : t ≡ ty = one-call env f args t ty (function, known, some) (function, known, g) in
+    false≢true (sym other ∙ (type-decides t ty).1 same)

@@ -3,3 +3,8 @@ pub mod CallLemmas
 pub mod RowsLemmas
 pub mod CalleeLemmas
 pub mod NoFaultLemmas
+pub mod FunctionLemmas
+pub mod ScopeLemmas
+pub mod ArgumentLemmas
+pub mod ExpressionLemmas
+pub mod ComputationLemmas

@@ -6,3 +6,7 @@ pub mod TypeFaults
 pub mod Named
 pub mod Rows
 pub mod Callees
+pub mod Functions
+pub mod Scopes
+pub mod Pairs
+pub mod Wanted

@@ -2,11 +2,18 @@
 #![tactic(auto)]
 
 mod callee;
+mod computations;
+mod expressions;
+mod functions;
 mod laws;
+mod leaf_types;
 mod names;
+mod pairs;
 mod rows;
+mod scope;
 mod table;
 mod typed;
+mod withs;
 
 pub use laws::{
     calls_have_the_types_of_their_functions, expressions_have_one_type,

@@ -5,3 +5,7 @@ pub mod StartLemmas
 pub mod ReadLemmas
 pub mod PathLemmas
 pub mod UserLemmas
+pub mod ContextLemmas
+pub mod PlaceLemmas
+pub mod OrderLemmas
+pub mod NameLemmas

@@ -54,6 +54,19 @@ number-same : (o : Option ℕ) (x : ℕ) → IsTrue (is_same_option o (Some x)) 
 number-same None x h = absurd (cc)
 number-same (Some y) x h = ap Some (eqb-true y x h)
 
+-- an option that a test lets through
+pub both : (o : Option ℕ) (b : Bool) (x : ℕ) → (if b then o else None) ≡ Some x → IsTrue (is_same_option o (Some x) && b)
+both o true x e = ap (λ b. b && true) (same-number o x e)
+both o false x e = absurd (none-some _ e)
+
+pub of-both : (o : Option ℕ) (b : Bool) (x : ℕ) → IsTrue (is_same_option o (Some x) && b) → (if b then o else None) ≡ Some x
+of-both o b x h = by (is_same_option o (Some x)) b refl h
+  where
+    by : (a b : Bool) → is_same_option o (Some x) ≡ a → IsTrue (a && b) → (if b then o else None) ≡ Some x
+    by true true e h = number-same o x e
+    by true false e h = absurd (cc)
+    by false b e h = absurd (cc)
+
 module _ (t : Tables) where
   -- what is in force stands in the text
   in-rule : (r : RuleItem) (k : Comp) → Contains t.spec.rules r → Contains r.body k → Contains (computations t.spec) k
@@ -135,18 +148,6 @@ module _ (t : Tables) (c : ℕ) (readers : Readers) (are : AreReaders t.spec c r
 
     user-same : (e : Entry) (f : Force) → IsEntryOf t p e f → IsForced t.spec p f → user_by t.spec.chains c readers begun r e ≡ (if uses f then symbol_at p (context_of f) else None)
     user-same e f is here = let u = uses-same e f is here in let s = at-same e f is in λ i. if u i then s i else None
-
-    both : (o : Option ℕ) (b : Bool) (x : ℕ) → (if b then o else None) ≡ Some x → IsTrue (is_same_option o (Some x) && b)
-    both o true x e = ap (λ b. b && true) (same-number o x e)
-    both o false x e = absurd (none-some _ e)
-
-    of-both : (o : Option ℕ) (b : Bool) (x : ℕ) → IsTrue (is_same_option o (Some x) && b) → (if b then o else None) ≡ Some x
-    of-both o b x h = by (is_same_option o (Some x)) b refl h
-      where
-        by : (a b : Bool) → is_same_option o (Some x) ≡ a → IsTrue (a && b) → (if b then o else None) ≡ Some x
-        by true true e h = number-same o x e
-        by true false e h = absurd (cc)
-        by false b e h = absurd (cc)
 
     abbrev test : ℕ → Force → Bool
     test x f = is_at t.spec T p f x && uses f

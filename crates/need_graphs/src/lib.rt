@@ -4,6 +4,7 @@
 
 mod chains;
 mod children;
+mod contexts;
 mod needs;
 mod numbers;
 mod paths;
@@ -13,6 +14,7 @@ mod users;
 
 pub use chains::{chain_graph, started};
 pub use children::child_graph;
+pub use contexts::context_symbols;
 pub use needs::chain_needs;
-pub use paths::chain_path;
+pub use paths::{chain_path, only};
 pub use users::{chain_users, forces_at};

@@ -14,7 +14,7 @@ use rule_tables::Forced;
 use std::alloc::Global;
 
 /// The set of one number, for so many.
-fn only(alloc: Global, count: usize, x: usize) -> Result<Vec<bool>, Memory>
+pub fn only(alloc: Global, count: usize, x: usize) -> Result<Vec<bool>, Memory>
     requires { x < count }
     ensures count { IfOk result (λ set. length set.items ≡ count) }
     ensures exactly { IfOk result (λ set. (y : ℕ) → IsTrue (is_in set.items y) ↔ IsTrue (nat_eq x y)) }

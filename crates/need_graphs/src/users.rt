@@ -39,7 +39,7 @@ fn right_symbol(right: &[SymId], k: usize) -> Option<usize>
 }
 
 /// The symbol at an occurrence of a plain rule.
-fn symbol_at(rule: &FlatRule, occ: usize) -> Option<usize>
+pub fn symbol_at(rule: &FlatRule, occ: usize) -> Option<usize>
     ensures { result ≡ symbol_in rule.now occ }
 {
     if occ == 0 {
@@ -122,7 +122,7 @@ fn users(
 }
 
 /// The set of these numbers, each below the count.
-fn set_of(alloc: Global, count: usize, numbers: &[usize]) -> Result<Vec<bool>, Memory>
+pub fn set_of(alloc: Global, count: usize, numbers: &[usize]) -> Result<Vec<bool>, Memory>
     requires { (x : ℕ) → Contains numbers.now x → x < count }
     ensures count { IfOk result (λ set. length set.items ≡ count) }
     ensures exactly { IfOk result (λ set. (x : ℕ) → IsTrue (is_in set.items x) ↔ Contains numbers.now x) }

@@ -1,14 +1,11 @@
 -- The plain rules of cells, one after another, and the different symbols of a right side.
-use Rattle.std.specs.Prelude.{filter, not, nat_eq, ◌||◌, Contains}
+use Rattle.std.specs.Prelude.{filter, not, nat_eq, Contains}
 use Rattle.std.specs.List.{AllZip, flat_map}
-use Rattle.std.proofs.Common.{◌≡◌, ℕ, inl, inr, ◌+◌, ◌<◌, Bool, true, false, if◌then◌else◌, List, [], ◌∷◌, ◌++◌, length, map, take, get_or, refl, ap, sym, subst, ◌∙◌, arith, append_assoc, append-nil, eqb-true, eq-eqb}
+use Rattle.std.proofs.Common.{◌≡◌, ℕ, inl, inr, ◌+◌, ◌<◌, Bool, true, false, if◌then◌else◌, List, [], ◌∷◌, ◌++◌, length, map, take, get_or, ap, sym, subst, ◌∙◌, arith, append_assoc, append-nil}
 use Rattle.std.proofs.lemmas.List.{take_more, map-append}
 use Rattle.std.proofs.lemmas.List.Elements.{filter-append, Contains-get_or}
 use Rattle.lido_base.specs.Environment.{Environment}
-use Rattle.lido_base.specs.Tree.{contains}
-use Rattle.lido_base.specs.declared.ids.StrId.{StrId}
 use Rattle.lido_symbols.specs.Numbers.{different, enumerated}
-use Rattle.lido_symbols.specs.Occurrences.{numbers}
 use Rattle.lido_syntax.specs.declared.spec.Spec.{Spec}
 use Rattle.flat_grammar.specs.declared.flat.FlatRule.{FlatRule}
 use Rattle.rule_tables.specs.PlainRules.{PlainRule}

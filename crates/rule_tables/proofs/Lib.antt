@@ -10,3 +10,4 @@ pub mod LaterUses
 pub mod TableLemmas
 pub mod LimitLemmas
 pub mod AssemblyLemmas
+pub mod CheckedLemmas

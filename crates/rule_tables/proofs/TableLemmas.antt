@@ -81,7 +81,7 @@ list-at n (r ∷ rules) k i e = by r.list k e (λ m f. list-at (suc n) rules m i
     by true (suc k) f later = moved (r ∷ filter is_list rules) (suc k) (later k f)
     by false k f later = moved (filter is_list rules) k (later k f)
 
-list-count : (n : ℕ) (rules : List RuleItem) → length (map (λ (x : ℕ × RuleItem). x.0) (filter at_list (enumerated n rules))) ≡ length (filter is_list rules)
+pub list-count : (n : ℕ) (rules : List RuleItem) → length (map (λ (x : ℕ × RuleItem). x.0) (filter at_list (enumerated n rules))) ≡ length (filter is_list rules)
 list-count n [] = refl
 list-count n (r ∷ rules) = by r.list (list-count (suc n) rules)
   where

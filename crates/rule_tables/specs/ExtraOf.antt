@@ -1,9 +1,6 @@
 -- What an expansion adds: its attributes with their kinds and types, and their computations in the plain rules.
 use Rattle.std.specs.Prelude.{◌≡◌, ℕ, ◌+◌, ◌*◌, ◌<◌, ◌⊎◌, List, [], ◌∷◌, Some, slice_get, AllPairs, Contains}
 use Rattle.std.specs.List.{AllZip}
-use Rattle.lido_base.specs.Environment.{Environment}
-use Rattle.lido_syntax.specs.declared.spec.Spec.{Spec}
-use Rattle.lido_syntax.specs.declared.spec.Typed1.{Typed1}
 use Rattle.rule_tables.specs.declared.table.Tables.{Tables as Rows}
 use Rattle.rule_tables.specs.declared.extra.Extra.{Extra}
 use Rattle.rule_tables.specs.declared.extra.ExtraAttr.{ExtraAttr}
@@ -18,7 +15,7 @@ use Rattle.rule_tables.specs.declared.extra.Piece.TheVariants as piece
 use Rattle.rule_tables.specs.PlainRules.{PlainRule, symbol_at}
 use Rattle.rule_tables.specs.Forced.{Force}
 use Rattle.rule_tables.specs.Needs.{Tables, Needs, ruled}
-use Rattle.rule_tables.specs.Slots.{Slot, Written, Inc, Con, Front, Behind, HasSlot, IsBefore}
+use Rattle.rule_tables.specs.Slots.{Slot, Written, Inc, Con, Front, Behind, HasSlot}
 use Rattle.rule_tables.specs.Shares.{Term, Read, Copied, Void, Comb, Single, Null}
 use Rattle.rule_tables.specs.Flat.{IsSlotKind, IsSlotType}
 use Rattle.rule_tables.specs.ForcedOf.{IsAttributeAt, IsChainAt}

@@ -11,7 +11,7 @@ use Rattle.lido_syntax.specs.declared.spec.Pair.{Pair}
 use Rattle.lido_syntax.specs.declared.spec.Cons.{Cons}
 use Rattle.lido_syntax.specs.declared.spec.Typed1.{Typed1}
 use Rattle.lido_syntax.specs.declared.spec.RuleItem.{RuleItem}
-use Rattle.lido_syntax.specs.Production.{name_of, right_of}
+use Rattle.lido_syntax.specs.Production.{name_of}
 use Rattle.lido_syntax.specs.Symbols.{IsNonterminal, IsTerminal, IsRoot}
 use Rattle.lido_syntax.specs.Attributes.{HasKind, HasType}
 use Rattle.lido_syntax.specs.Computation.{Goal, Synthesized, Inherited}

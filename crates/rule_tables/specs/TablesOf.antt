@@ -1,13 +1,10 @@
 -- The tables of a specification: its symbols and cells, each with its attributes, its plain rules and its shapes.
-use Rattle.std.specs.Prelude.{◌≡◌, ℕ, ◌+◌, ◌⊎◌, true, nat_eq, List, [], ◌∷◌, ◌++◌, map, filter_map, length, Option, Some, None, slice_get, codes, All, AllPairs, Contains}
+use Rattle.std.specs.Prelude.{◌≡◌, ℕ, ◌+◌, true, nat_eq, List, [], ◌++◌, map, filter_map, length, Option, Some, None, slice_get, codes, AllPairs, Contains}
 use Rattle.std.specs.List.{AllZip}
 use Rattle.lido_base.specs.declared.ids.SymId.{SymId}
-use Rattle.lido_base.specs.declared.value.ValueType.{ValueType}
 use Rattle.lido_base.specs.Environment.{Environment}
 use Rattle.lido_syntax.specs.declared.spec.Spec.{Spec}
 use Rattle.lido_syntax.specs.declared.spec.RuleItem.{RuleItem}
-use Rattle.lido_syntax.specs.declared.spec.SymbolItem.{SymbolItem}
-use Rattle.lido_syntax.specs.Production.{name_of}
 use Rattle.lido_syntax.specs.Functions.{text_of}
 use Rattle.lido_syntax.specs.Symbols.{IsNonterminal, IsTerminal, IsRoot}
 use Rattle.lido_syntax.specs.Sets.{inherits_directly}

@@ -1,10 +1,11 @@
 //! The tables of a specification in which there is no fault of the tables.
-ghost use Rattle.std.specs.Prelude.{◌≡◌, ◌≤◌, ◌+◌, ℕ, filter, length, Contains, IfOk};
+ghost use Rattle.std.specs.Prelude.{◌≡◌, ◌≤◌, ◌+◌, ◌⊎◌, ℕ, filter, length, Contains, IfOk, IfErr};
 ghost use Rattle.std.specs.List.{AllZip};
 ghost use Rattle.lido_base.specs.Environment.{Environment};
-ghost use Rattle.lido_base.specs.Faults.{HasNone};
+ghost use Rattle.lido_base.specs.Faults.{HasNone, First};
 ghost use Rattle.lido_base.specs.Texts.{Gains};
 ghost use Rattle.lido_syntax.specs.declared.spec.RuleItem.{RuleItem as Rule};
+ghost use Rattle.lido_syntax.specs.declared.fault.SpecFault.TheVariants as fault;
 ghost use Rattle.lido_syntax.specs.Symbols.{IsRoot};
 ghost use Rattle.lido_symbols.specs.FromText.{IsFromText};
 ghost use Rattle.kind_clashes.specs.Sets.{AreNameSets};
@@ -26,9 +27,10 @@ use flat_grammar::FlatRule;
 use kind_clashes::NameSets;
 use lido_base::{List, Memory, Strings, SymId};
 use lido_symbols::{Names, symbol_numbers};
-use lido_syntax::Spec;
+use lido_syntax::{Spec, SpecFault};
 use std::alloc::Global;
 use symbol_attributes::written_attributes;
+use table_faults::check;
 
 /// The root of a specification that has one.
 fn only_root(symbols: &Names, sets: &NameSets, spec: &Spec) -> SymId
@@ -106,4 +108,22 @@ pub fn tables_of(alloc: Global, spec: Spec, strings: &mut Strings) -> Result<Tab
         plain: List::from_vec(plain),
         shapes,
     })
+}
+
+/// The tables of a specification that was read from a text. Its names are ids of `strings`, to which the names of cells and of
+/// their rules are added. An `Err` is the first fault of the tables, and then the texts are unchanged; or it is want of memory.
+pub fn tables(alloc: Global, spec: Spec, strings: &mut Strings) -> Result<Tables, SpecFault>
+    requires from_text { IsFromText spec }
+    requires ids { HasIds strings.old spec }
+    ensures of_spec { IfOk result (λ tables. tables.spec ≡ spec) }
+    ensures tables { IfOk result (λ tables. (env : Environment) → env.texts ≡ strings.new → AreTablesOf env tables) }
+    ensures few { IfOk result (λ tables. length tables.symbols ≤ 512) }
+    ensures none { IfOk result (λ _. (env : Environment) → env.texts ≡ strings.old → HasNone (table_faults spec env)) }
+    ensures err { IfErr result (λ f. (f ≡ fault.Memory) ⊎ ((env : Environment) → env.texts ≡ strings.old → First (table_faults spec env) f)) }
+    ensures unchanged { IfErr result (λ f. (f ≡ fault.Memory) ⊎ (strings.new ≡ strings.old)) }
+    ensures kept { Gains strings.old strings.new }
+{
+    check(alloc, &spec, strings)?;
+    let tables = tables_of(alloc, spec, strings)?;
+    Ok(tables)
 }

@@ -16,7 +16,7 @@ mod symbol_kinds;
 mod table;
 mod written;
 
-pub use assembly::tables_of;
+pub use assembly::{tables, tables_of};
 pub use extra::{Extra, ExtraAttr, ExtraComp, Piece, Slot, SlotAt, Term};
 pub use forced::{Force, Forced, Goal};
 pub use laws::decided_needs;

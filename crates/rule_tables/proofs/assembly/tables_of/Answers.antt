@@ -1,4 +1,4 @@
-use Rattle.std.proofs.Common.{refl, sym, subst, ◌∙◌, ap, [], ◌≡◌, ◌+◌, ◌≤◌, ◌++◌, length, filter, arith, nat_eq}
+use Rattle.std.proofs.Common.{refl, sym, subst, ◌∙◌, ap, [], length, filter, arith, nat_eq}
 use Rattle.std.specs.List.{AllZip}
 use Rattle.lido_base.specs.Environment.{Environment}
 use Rattle.lido_base.specs.Texts.{Gains}
@@ -7,7 +7,7 @@ use Rattle.symbol_attributes.proofs.LawLemmas.{are-numbered-in}
 use Rattle.rule_tables.specs.PlainRules.{IsShapeOf}
 use Rattle.rule_tables.specs.RuleNames.{HasNames}
 use Rattle.rule_tables.specs.TablesOf.{IsCellOf}
-use Rattle.rule_tables.proofs.PlainLemmas.{is_list, list_count}
+use Rattle.rule_tables.proofs.PlainLemmas.{is_list}
 use Rattle.rule_tables.proofs.LaterTexts.{no-more, more-again}
 use Rattle.rule_tables.proofs.LaterUses.{uses-later, rule-names, names-later}
 use Rattle.rule_tables.proofs.LimitLemmas.{few-symbols, few-rules, all-known, other-known, some-root}

@@ -18,3 +18,6 @@ pub mod NameLemmas
 pub mod BareLemmas
 pub mod SizeLemmas
 pub mod WholeLemmas
+pub mod DifferLemmas
+pub mod AttributeLemmas
+pub mod WellFormedLemmas

@@ -3,6 +3,4 @@
 
 mod laws;
 
-pub use laws::{
-    lists_are_chains_of_cells, numbers_are_small, rules_compute_their_goals, terminals_are_bare,
-};
+pub use laws::flat_grammars_are_well_formed;

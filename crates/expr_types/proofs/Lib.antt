@@ -8,3 +8,6 @@ pub mod ScopeLemmas
 pub mod ArgumentLemmas
 pub mod ExpressionLemmas
 pub mod ComputationLemmas
+pub mod GoalLemmas
+pub mod NoComputationFaultLemmas
+pub mod ThereLemmas

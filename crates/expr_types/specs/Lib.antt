@@ -10,3 +10,4 @@ pub mod Functions
 pub mod Scopes
 pub mod Pairs
 pub mod Wanted
+pub mod Goals

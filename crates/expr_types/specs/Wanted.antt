@@ -1,7 +1,8 @@
 -- What a goal takes, as the code has it, and what is found of a computation in a scope.
-use Rattle.std.specs.Prelude.{◌≡◌, ◌↔◌, List, flat_map, Contains}
+use Rattle.std.specs.Prelude.{◌≡◌, ℕ, ◌↔◌, List, flat_map, Contains}
 use Rattle.lido_base.specs.declared.value.ValueType.{ValueType}
 use Rattle.lido_syntax.specs.declared.fault.SpecFault.{SpecFault}
+use Rattle.lido_syntax.specs.declared.spec.Spec.{Spec}
 use Rattle.lido_syntax.specs.declared.spec.Expr.{Expr}
 use Rattle.lido_syntax.specs.declared.spec.Comp.{Comp}
 use Rattle.lido_syntax.specs.declared.spec.Target.{Target}
@@ -19,10 +20,13 @@ abbrev pub Takes : Wanted → ValueType → Type 0
 Takes wanted.Any ty = Unit {0}
 Takes (wanted.Only other) ty = ty ≡ other
 
+-- what is wanted is what the goal of the symbol takes
+abbrev pub IsWantedOf : Spec → ℕ → Goal → Wanted → Type 0
+IsWantedOf spec own goal w = (ty : ValueType) → Takes w ty ↔ GoalTakes spec own goal ty
+
 module _ (scope : Scope) where
-  -- the goal takes what is wanted
   abbrev pub IsWantedBy : Goal → Wanted → Type 0
-  IsWantedBy goal w = (ty : ValueType) → Takes w ty ↔ GoalTakes (spec_of scope) scope.own.0 goal ty
+  IsWantedBy goal w = IsWantedOf (spec_of scope) scope.own.0 goal w
 
   -- what the leaves of these expressions name is there
   abbrev pub AreAllThere : List Expr → Type 0

@@ -5,6 +5,7 @@ mod callee;
 mod computations;
 mod expressions;
 mod functions;
+mod goals;
 mod laws;
 mod leaf_types;
 mod names;
@@ -17,6 +18,7 @@ mod withs;
 
 pub use laws::{
     calls_have_the_types_of_their_functions, expressions_have_one_type,
+    leaves_in_force_name_what_is_there, typed_computations_have_no_fault,
     typed_expressions_have_no_fault,
 };
 pub use names::operation_named;

@@ -1,13 +1,16 @@
 -- The attributes of a symbol have different names.
-use Rattle.std.specs.Prelude.{Contains, AllPairs, All, slice_get, nat_eq, flat_map, filter, ◌^◌}
+use Rattle.std.specs.Prelude.{Contains, AllPairs, All, slice_get, nat_eq, flat_map, filter, ◌^◌, IsTrue, map, not}
 use Rattle.std.proofs.Common.{◌≡◌, ℕ, zero, suc, ◌+◌, ◌<◌, ◌≤◌, ◌⊎◌, inl, inr, Bool, true, false, cond, List, [], ◌∷◌, length, Some, refl, sym, ap, subst, ◌∙◌, arith, length-append, eqb-true, eq-eqb}
 use Rattle.std.proofs.lemmas.Bool.{cases_lt}
 use Rattle.std.proofs.lemmas.Option.{same_Some, slice_get_within}
 use Rattle.std.proofs.lemmas.Fmt.{decimal_injective}
+use Rattle.std.proofs.lemmas.List.{length-map}
+use Rattle.std.proofs.lemmas.List.Elements.{All-contains}
+use Rattle.rule_tables.proofs.LimitLemmas.{no-more-names}
 use Rattle.lido_base.specs.Environment.{Environment}
 use Rattle.lido_base.specs.declared.ids.SymId.{SymId}
 use Rattle.lido_base.specs.declared.ids.StrId.{StrId}
-use Rattle.lido_base.proofs.Lists.{contains-nil, contains-cons, contains-here, place-contains}
+use Rattle.lido_base.proofs.Lists.{contains-nil, contains-cons, contains-here, place-contains, contains-map, map-contains}
 use Rattle.flat_grammar.specs.declared.flat.FlatSymbol.{FlatSymbol}
 use Rattle.flat_grammar.specs.declared.flat.FlatAttr.{FlatAttr}
 use Rattle.flat_grammar.specs.declared.flat.FlatRule.{FlatRule}
@@ -18,8 +21,8 @@ use Rattle.lido_syntax.specs.declared.spec.RuleItem.{RuleItem}
 use Rattle.lido_syntax.specs.declared.spec.SymbolItem.{SymbolItem}
 use Rattle.lido_syntax.specs.Functions.{text_of}
 use Rattle.lido_syntax.specs.Computation.{is_message}
-use Rattle.lido_symbols.specs.Numbers.{place_in}
-use Rattle.lido_symbols.specs.Uses.{computations, all_constituents}
+use Rattle.lido_symbols.specs.Numbers.{place_in, AreNumbered, different}
+use Rattle.lido_symbols.specs.Uses.{computations, all_constituents, is_same_constituents}
 use Rattle.table_faults.specs.Faults.{computations_and_constituents as too_many}
 use Rattle.lido_syntax.specs.declared.fault.SpecFault.TheVariants as fault
 use Rattle.lido_base.specs.declared.kinds.Many.TheVariants as many
@@ -27,7 +30,7 @@ use Rattle.rule_tables.specs.Needs.{Tables, Needs, AreTables}
 use Rattle.rule_tables.specs.Slots.{Slot, Written, Inc, Con, Front, Behind, Msg, Out, HasSlot, HasMessage, IsBefore, AreSlots, chains}
 use Rattle.rule_tables.specs.Flat.{IsFlat, IsAttribute, slot_text}
 use Rattle.flat_laws.specs.Accepted.{IsAccepted, IsWordAt, AreNames}
-use Rattle.flat_laws.proofs.Lists.{pair-at, pairs-places, all-places, zip-left}
+use Rattle.flat_laws.proofs.Lists.{pair-at, pairs-places, all-places, zip-left, mapped-back}
 use Rattle.flat_laws.proofs.NeedLemmas.{place-passes}
 use Rattle.flat_laws.proofs.NameLemmas.{no-dollar, one-id, attribute-word, chain-word}
 
@@ -48,6 +51,57 @@ filter-short {X} test (x ∷ xs) = by (test x) (filter-short test xs)
     by true h = omega (arith, h)
     by false h = omega (arith, h)
 
+different-short : (xs : List ℕ) → length (different xs) ≤ length xs
+different-short [] = omega arith
+different-short (x ∷ xs) = omega (arith, filter-short (λ y. not (nat_eq x y)) (different xs), different-short xs)
+
+-- the CONSTITUENTS that are numbered are no more than those of the text
+module _ (uses : List (ℕ × Cons)) (keys : List Cons) (numbered : AreNumbered is_same_constituents uses keys) where
+  abbrev by_number : ℕ × Cons → ℕ × ℕ
+  by_number u = (u.0, u.1.number)
+
+  abbrev number_of : Cons → ℕ
+  number_of k = k.number
+
+  -- some use of this number stands in front
+  abbrev HasBefore : ℕ → ℕ → Type 0
+  HasBefore m at = (first : ℕ) × (i : ℕ) × Contains (map by_number uses) (first, i) × IsTrue (nat_eq i m) × (first < at)
+
+  before-number : (i j m n : ℕ) → i < j → slice_get (map number_of keys) i ≡ Some m → slice_get (map number_of keys) j ≡ Some n → (at q : ℕ) → Contains (map by_number uses) (at, q) → IsTrue (nat_eq q n) → HasBefore m at
+  before-number i j m n h e f at q used same =
+      let (k, ek, nk) = mapped-back number_of keys i m e in
+      let (l, el, nl) = mapped-back number_of keys j n f in
+      let (u, mu, eu) = contains-map by_number uses (at, q) used in
+      let place : u.0 ≡ at = ap (λ (z : ℕ × ℕ). z.0) eu in
+      let its : u.1.number ≡ q = ap (λ (z : ℕ × ℕ). z.1) eu in
+      let (first, c, there, is, less) = pair-at (λ k l. (at : ℕ) (j : Cons) → Contains uses (at, j) → IsTrue (is_same_constituents j l) → (first : ℕ) × (i : Cons) × Contains uses (first, i) × IsTrue (is_same_constituents i k) × (first < at))
+      keys i j k l numbered.by_place ek el h u.0 u.1 mu (eq-eqb u.1.number l.number (its ∙ eqb-true q n same ∙ sym nl)) in
+      (first, c.number, map-contains by_number uses (first, c) there, eq-eqb c.number m (eqb-true c.number k.number is ∙ nk), omega (arith, less, place))
+
+  numbers-numbered : AreNumbered nat_eq (map by_number uses) (map number_of keys)
+  numbers-numbered = record {
+    named = all-places (λ (n : ℕ). (at : ℕ) × Contains (map by_number uses) (at, n)) (map number_of keys) (λ i n e.
+        (let (k, ek, nk) = mapped-back number_of keys i n e in
+        let (at, m) = All-contains (λ (k : Cons). (at : ℕ) × Contains uses (at, k)) keys k numbered.named (place-contains keys i k ek) in
+        (at, subst (λ n. Contains (map by_number uses) (at, n)) nk (map-contains by_number uses (at, k) m))));
+    all = λ at n m.
+        (let (u, mu, eu) = contains-map by_number uses (at, n) m in
+        let (l, ml, same) = numbered.all u.0 u.1 mu in
+        (l.number, map-contains number_of keys l ml, eq-eqb n l.number (sym (ap (λ (z : ℕ × ℕ). z.1) eu) ∙ eqb-true u.1.number l.number same)));
+    by_place = pairs-places (λ m n. (at : ℕ) (q : ℕ) → Contains (map by_number uses) (at, q) → IsTrue (nat_eq q n) → HasBefore m at) (map number_of keys) before-number;
+  }
+
+  no-more-constituents : length keys ≤ length uses
+  no-more-constituents =
+      omega (
+        arith,
+        no-more-names (map by_number uses) (map number_of keys) numbers-numbered,
+        different-short (map (λ (u : ℕ × ℕ). u.1) (map by_number uses)),
+        length-map (map by_number uses) (λ (u : ℕ × ℕ). u.1),
+        length-map uses by_number,
+        length-map keys number_of,
+      )
+
 -- what stands behind the first ones
 abbrev dropped : (n : ℕ) → List ℕ → List ℕ
 dropped zero xs = xs
@@ -55,13 +109,22 @@ dropped (suc n) [] = []
 dropped (suc n) (x ∷ xs) = dropped n xs
 
 module _ (spec : Spec) (early env : Environment) (T : Tables spec) (tables : AreTables spec T env) (accepted : IsAccepted spec early T) (names : AreNames spec early env) (needs : Needs spec T) (slots : ℕ → List Slot) (are : AreSlots spec T needs slots)
-    (few_includings : length T.includings < 2 ^ 64) (few_constituents : length T.constituents < 2 ^ 64) where
-  few-computations : length (computations spec) ≤ 65536
-  few-computations = by (cases_lt 65536 (length (computations spec) + length (all_constituents spec)))
+    (few_includings : length T.includings < 2 ^ 64) where
+  few-both : length (computations spec) + length (all_constituents spec) ≤ 65536
+  few-both = by (cases_lt 65536 (length (computations spec) + length (all_constituents spec)))
     where
-      by : (65536 < length (computations spec) + length (all_constituents spec)) ⊎ (length (computations spec) + length (all_constituents spec) ≤ 65536) → length (computations spec) ≤ 65536
+      by : (65536 < length (computations spec) + length (all_constituents spec)) ⊎ (length (computations spec) + length (all_constituents spec) ≤ 65536) → length (computations spec) + length (all_constituents spec) ≤ 65536
       by (inl h) = absurd (accepted.tables.1.1.1.1.1.1.1.1.1.1.0 (fault.TooMany many.Computations) (too_many h, refl))
-      by (inr h) = omega (arith, h)
+      by (inr h) = h
+
+  few-computations : length (computations spec) ≤ 65536
+  few-computations = let h = few-both in omega (arith, h)
+
+  few-constituents : length T.constituents ≤ 65536
+  few-constituents =
+      let h = few-both in
+      let l = no-more-constituents (all_constituents spec) T.constituents tables.constituents in
+      omega (arith, h, l)
 
   message-below : (q j : ℕ) → HasMessage spec T needs q j → j < 2 ^ 64
   message-below q zero h = absurd h
@@ -112,7 +175,7 @@ module _ (spec : Spec) (early env : Environment) (T : Tables spec) (tables : Are
       let q = place_in (λ (k : Cons). nat_eq k.number b) T.constituents in
       let lp = slice_get_within T.constituents p k ek in
       let lq = slice_get_within T.constituents q l el in
-      let f = few_constituents in
+      let f = few-constituents in
       let same = decimal_injective (suc p) (suc q) (omega (arith, lp, f)) (omega (arith, lq, f)) (ap (dropped 4) e) in
       let place : p ≡ q = omega (arith, same) in
       sym na ∙ ap (λ (k : Cons). k.number) (same_Some k l (sym ek ∙ ap (slice_get T.constituents) place ∙ el)) ∙ nb

@@ -55,7 +55,7 @@ pub record AreFew (symbols : List FlatSymbol) (rules : List FlatRule) : Type 0 w
 abbrev pub IsOnce : FlatRule → Type 0
 IsOnce r = AllPairs (λ (c d : FlatComp). c.goal ≡ d.goal → ⊥) r.comps
 
--- The grammar is the flat one of the specification, with these tables, needs and attributes. Remote lists are as few as 64 bits number.
+-- The grammar is the flat one of the specification, with these tables, needs and attributes. There are as few sets of INCLUDINGs as 64 bits number.
 pub record IsFlattened (spec : Spec) (early env : Environment) (T : Tables spec) (needs : Needs spec T) (slots : ℕ → List Slot) (symbols : List FlatSymbol) (rules : List FlatRule) (shapes : List Shape) (root : SymId) : Type 0 where
   pub tables : AreTables spec T env
   pub accepted : IsAccepted spec early T
@@ -65,4 +65,3 @@ pub record IsFlattened (spec : Spec) (early env : Environment) (T : Tables spec)
   pub once : All IsOnce rules
   pub few : AreFew symbols rules
   pub few_includings : length T.includings < 2 ^ 64
-  pub few_constituents : length T.constituents < 2 ^ 64

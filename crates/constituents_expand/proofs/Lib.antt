@@ -1,2 +1,4 @@
 pub mod UseLemmas
 pub mod ReachLemmas
+pub mod ListingLemmas
+pub mod FaultLemmas

@@ -35,7 +35,7 @@ uses-Call n valued f args list same =
     ap (filter_map (use_of n valued)) (leaves-Call f args) ∙ filtered-flat (use_of n valued) leaves args ∙ ap (flat_map (uses_in n valued)) (sym same)
 
 -- by its number, as in the list of all
-abbrev numbered : Standing → ℕ × Cons
+abbrev pub numbered : Standing → ℕ × Cons
 numbered u = (u.constituents.number, u.constituents)
 
 use-same : (n : ℕ) (valued : Bool) (e : Expr) → option_map numbered (use_of n valued e) ≡ constituents_of e
@@ -74,7 +74,7 @@ comp-same c =
 pub text-same : (spec : Spec) → map numbered (text_uses spec) ≡ all_constituents spec
 text-same spec = mapped-flat numbered uses_of (λ c. filter_map constituents_of (leaves_of c)) comp-same (computations spec) ∙ sym (filtered-flat constituents_of leaves_of (computations spec))
 
-abbrev number : Standing → ℕ
+abbrev pub number : Standing → ℕ
 number u = u.constituents.number
 
 -- the numbers of the CONSTITUENTS of a text that was read differ

@@ -1,2 +1,5 @@
 pub mod Uses
 pub mod Reach
+pub mod Listings
+pub mod Faults
+pub mod Named

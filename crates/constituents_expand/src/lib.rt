@@ -1,8 +1,14 @@
 //! What CONSTITUENTS add to the flat grammar.
 #![tactic(auto)]
 
+mod faults;
+mod listings;
 mod reach;
+mod symbols;
 mod uses;
 
+pub use faults::least_lack;
+pub use listings::{is_shielded, listed};
 pub use reach::{both, children_of, reached, wanted};
+pub use symbols::Symbols;
 pub use uses::{Use, sorted_uses};

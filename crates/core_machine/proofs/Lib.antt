@@ -35,3 +35,4 @@ pub mod EvaluationLemmas
 pub mod NoteLemmas
 pub mod FinishLemmas
 pub mod SizeLemmas
+pub mod ContentsLemmas

@@ -1,0 +1,4 @@
+pub mod Inputs
+pub mod Named
+pub mod Entries
+pub mod Slots

@@ -11,3 +11,4 @@ pub mod ComputationLemmas
 pub mod GoalLemmas
 pub mod NoComputationFaultLemmas
 pub mod ThereLemmas
+pub mod CalledLemmas

@@ -11,3 +11,4 @@ pub mod Scopes
 pub mod Pairs
 pub mod Wanted
 pub mod Goals
+pub mod Called

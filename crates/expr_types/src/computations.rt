@@ -54,7 +54,7 @@ fn check_value(alloc: Global, scope: &Scope, value: &Expr, wanted: Wanted) -> Re
 }
 
 /// The condition of a message, if it has one.
-fn condition(target: &Target) -> Option<&Expr>
+pub(crate) fn condition(target: &Target) -> Option<&Expr>
     ensures { map (λ e. e.now) (option_to_list result) ≡ conditions target.now }
 {
     match target {

@@ -1,6 +1,7 @@
 //! Types of expressions.
 #![tactic(auto)]
 
+mod called;
 mod callee;
 mod computations;
 mod expressions;

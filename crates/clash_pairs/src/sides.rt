@@ -1,44 +1,17 @@
 //! Which kinds the targets of rules' computations tell.
 ghost use Rattle.std.specs.Prelude.{◌≡◌, ◌++◌, map, flat_map, IfOk, OnOk};
-ghost use Rattle.std.specs.List.{list_any};
-ghost use Rattle.lido_base.specs.Tree.{contains};
 ghost use Rattle.lido_syntax.specs.Attributes.{possible};
-ghost use Rattle.lido_syntax.specs.Production.{right_of};
 ghost use Rattle.lido_syntax.specs.declared.spec.Comp.{Comp as Computation};
-ghost use Rattle.lido_symbols.specs.Occurrences.{IsProductionOf, names_symbol};
+ghost use Rattle.lido_symbols.specs.Occurrences.{IsProductionOf};
 ghost use Rattle.symbol_attributes.specs.Said.{side_of, one_side};
 ghost use Rattle.clash_pairs.specs.Facts.{kinds_by_place, kinds_by_target, kinds_of_rule, kinds_of_text};
 
 use crate::items::{KindFact, push_items, push_unless_chain};
 use kind_clashes::Names as Set;
-use lido_base::{Kind, Memory, StrId};
+use lido_base::{Kind, Memory};
 use lido_symbols::{Names, Production};
-use lido_syntax::{Comp, Element, Name, Place, RuleItem, Spec, Target};
+use lido_syntax::{Comp, Name, Place, RuleItem, Spec, Target};
 use std::alloc::Global;
-
-/// Whether the element is the symbol of that name.
-fn is_symbol(element: &Element, id: StrId) -> bool
-    ensures { result ≡ names_symbol id.0 element.now }
-{
-    match element {
-        Element::Symbol(name) => name.id == id,
-        Element::Literal(_) => false,
-    }
-}
-
-/// Whether one of the elements is the symbol of that name.
-fn has_symbol(elements: &[Element], id: StrId) -> bool
-    ensures { result ≡ list_any (names_symbol id.0) elements.now }
-{
-    elements.iter().any(|element| is_symbol(element, id))
-}
-
-/// Whether the right side has the symbol.
-fn is_right(rule: &RuleItem, id: StrId) -> bool
-    ensures { result ≡ contains id.0 (right_of rule.now) }
-{
-    has_symbol(rule.right.as_slice(), id)
-}
 
 /// The side where all occurrences are that the name can mean, by the kind that it tells, if they are on one side.
 fn side(production: &Production, rule: &RuleItem, name: Name, index: Option<i64>) -> Option<Kind>
@@ -48,7 +21,7 @@ fn side(production: &Production, rule: &RuleItem, name: Name, index: Option<i64>
     match production.occurrence(name, index) {
         Some(0) => Some(Kind::Synthesized),
         Some(_) => Some(Kind::Inherited),
-        None => only_side(name.id.0 == rule.left.id.0, is_right(rule, name.id)),
+        None => only_side(name.id.0 == rule.left.id.0, production.is_right(name.id)),
     }
 }
 

@@ -10,7 +10,7 @@ use crate::comps::comp_clash;
 use crate::least::earlier;
 use crate::sets::NameSets;
 use lido_base::{Memory, Strings};
-use lido_symbols::{Production, is_coordinate_in_rule, is_in_production, leaves};
+use lido_symbols::{Production, leaves};
 use lido_syntax::{Comp, Expr, Name, Place, RuleItem, Target};
 use std::alloc::Global;
 
@@ -21,7 +21,7 @@ fn is_on_right(production: &Production, rule: &RuleItem, name: Name, index: Opti
 {
     match production.occurrence(name, index) {
         Some(k) => k > 0,
-        None => rule.left.id.0 != name.id.0 && is_in_production(rule, name.id),
+        None => rule.left.id.0 != name.id.0 && production.has(name.id),
     }
 }
 
@@ -64,14 +64,16 @@ fn target_side_clash(
 
 fn bare_clash(
     sets: &NameSets,
+    production: &Production,
     strings: &Strings,
     rule: &RuleItem,
     name: Name,
     index: Option<i64>,
 ) -> Option<u32>
+    requires { IsProductionOf rule.now production.now }
     ensures { IsFirst (IsBareClash sets.now rule.now strings.now name index) result }
 {
-    if is_coordinate_in_rule(strings, rule, name, index) {
+    if production.is_coordinate(strings, name, index) {
         return None;
     }
     if sets.nonterminals.has(name.id) {
@@ -92,7 +94,7 @@ fn leaf_side_clash(
     ensures { IsFirst (IsLeafSideClash sets.now rule.now strings.now leaf.now) result }
 {
     match leaf {
-        Expr::Terminal(name, index) => bare_clash(sets, strings, rule, *name, *index),
+        Expr::Terminal(name, index) => bare_clash(sets, production, strings, rule, *name, *index),
         Expr::Read(_, place, attr) => side_clash(sets, production, rule, *place, *attr),
         _ => None,
     }

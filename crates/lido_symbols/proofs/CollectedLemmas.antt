@@ -10,7 +10,7 @@ use Rattle.lido_syntax.specs.Production.{name_of, symbol_of, places_from}
 use Rattle.lido_symbols.specs.Occurrences.{numbers, names_symbol}
 use Rattle.std.proofs.lemmas.Grind.{flat_map-append}
 use Rattle.std.proofs.lemmas.List.Elements.{filter_map-append}
-use Rattle.std.proofs.lemmas.List.Folds.{flat_map-map}
+use Rattle.std.proofs.lemmas.List.Folds.{flat_map-map, list_any_more}
 use Rattle.std.specs.Borrow.{Bor}
 
 module _ {X Y : Type 0} (f : X → List Y) where
@@ -68,6 +68,22 @@ pub named_any : (x : ℕ) (es : List Element) → list_any (names_symbol x) es �
 named_any x [] = refl
 named_any x (Symbol n ∷ es) = ap (λ b. nat_eq x (name_of n) || b) (named_any x es)
 named_any x (Literal s ∷ es) = named_any x es
+
+turned_or : (e l : Bool) → (e || l) ≡ (l || e)
+turned_or true true = refl
+turned_or true false = refl
+turned_or false true = refl
+turned_or false false = refl
+
+-- one symbol more of a right side
+pub named_more : (x : ℕ) (es : List Element) (i : ℕ) (e d : Element) (old new : Bool) → i < length es → e ≡ get_or es i d → old ≡ list_any (names_symbol x) (take i es)
+    → new ≡ (names_symbol x e || old) → new ≡ list_any (names_symbol x) (take (i + 1) es)
+named_more x es i e d old new below at before added =
+    added ∙ ap (λ b. names_symbol x e || b) before ∙ turned_or (names_symbol x e) (list_any (names_symbol x) (take i es))
+    ∙ ap (λ y. list_any (names_symbol x) (take i es) || names_symbol x y) at ∙ sym (list_any_more (names_symbol x) es i d below)
+
+pub named_all : (x : ℕ) (es all : List Element) (i : ℕ) (found : Bool) → length es ≤ i → es ≡ all → found ≡ list_any (names_symbol x) (take i es) → found ≡ contains x (filter_map symbol_of all)
+named_all x es all i found h same before = before ∙ ap (list_any (names_symbol x)) (take_all i es h) ∙ named_any x es ∙ ap (λ l. contains x (filter_map symbol_of l)) same
 
 pub filtered_flat : {X Y : Type 0} (h : X → Option Y) (xs : List X) → flat_map (λ x. option_to_list (h x)) xs ≡ filter_map h xs
 filtered_flat h [] = refl

@@ -2,7 +2,9 @@
 use Rattle.std.specs.Prelude.{◌≡◌, ℕ, Bool, false, nat_eq, List, [], ◌∷◌, ◌++◌, map, flat_map, option_map, unwrap_or}
 use Rattle.std.specs.Global.{Vec}
 use Rattle.std.specs.HashMap as table
+use Rattle.std.specs.HashSet as bag
 use Rattle.lido_base.specs.declared.ids.StrId.{StrId}
+use Rattle.lido_base.specs.Tree.{contains}
 use Rattle.lido_syntax.specs.declared.spec.RuleItem.{RuleItem}
 use Rattle.lido_syntax.specs.declared.spec.Name.{Name}
 use Rattle.lido_syntax.specs.declared.spec.Comp.{Comp}
@@ -10,7 +12,7 @@ use Rattle.lido_syntax.specs.declared.spec.Place.{Place}
 use Rattle.lido_syntax.specs.declared.spec.Place.TheVariants.{Named}
 use Rattle.lido_syntax.specs.declared.spec.Element.{Element}
 use Rattle.lido_syntax.specs.declared.spec.Element.TheVariants.{Symbol, Literal}
-use Rattle.lido_syntax.specs.Production.{name_of, production, places_from}
+use Rattle.lido_syntax.specs.Production.{name_of, left_of, right_of, production, places_from}
 use Rattle.lido_syntax.specs.Parts.{leaves_of}
 use Rattle.lido_symbols.specs.Uses.{attributes_in, attributes_of_target}
 use Rattle.lido_symbols.specs.declared.production.Production.{Production}
@@ -22,10 +24,16 @@ numbers = map (λ (s : StrId). s.0)
 unfoldable pub row_of : Production → ℕ → List ℕ
 row_of p x = unwrap_or (option_map (λ (v : Vec ℕ). v.items) (table.get nat_eq p.places x)) []
 
--- It has the occurrences that a computation of the rule can name.
+-- whether the symbol stands on the right side
+unfoldable pub is_right_symbol : Production → ℕ → Bool
+is_right_symbol p x = bag.contains nat_eq p.right x
+
+-- It has the symbols of both sides, and the occurrences that a computation of the rule can name.
 pub record IsProductionOf (r : RuleItem) (p : Production) : Type 0 where
   pub list : p.list ≡ r.list
   pub rows : (x : ℕ) → row_of p x ≡ places_from 0 x (production r)
+  pub left : p.left.0 ≡ left_of r
+  pub right : (x : ℕ) → is_right_symbol p x ≡ contains x (right_of r)
 
 -- a test that the element is the symbol of that name
 abbrev pub names_symbol : ℕ → Element → Bool

@@ -13,7 +13,7 @@ use lido_base::{StrId, Strings};
 use lido_syntax::{Element, Name, RuleItem};
 
 /// Whether the text of the name is that of a coordinate, LINE or COL.
-fn is_part(strings: &Strings, id: StrId) -> bool
+pub fn is_part(strings: &Strings, id: StrId) -> bool
     ensures { (env : Environment) → env.texts ≡ strings.now → result ≡ is_some (part_named (text_of env id.0)) }
 {
     if id.0 as usize >= strings.len() {
@@ -41,14 +41,14 @@ fn has_symbol(elements: &[Element], id: StrId) -> bool
 }
 
 /// Whether the name is a symbol of the production, the left side or one of the right side.
-pub fn is_in_production(rule: &RuleItem, id: StrId) -> bool
+fn is_in_production(rule: &RuleItem, id: StrId) -> bool
     ensures { result ≡ contains id.0 (symbols_of rule.now) }
 {
     rule.left.id == id || has_symbol(rule.right.as_slice(), id)
 }
 
 /// Whether a bare name of a rule's computation is a coordinate: it is LINE or COL, has no index, and no symbol of the
-/// production has the name.
+/// production has the name. It walks along the right side; `Production` tells it without.
 pub fn is_coordinate_in_rule(
     strings: &Strings,
     rule: &RuleItem,

@@ -11,7 +11,7 @@ mod production;
 mod symbol_uses;
 
 pub use attribute_uses::attribute_names;
-pub use coordinates::{is_coordinate_in_rule, is_coordinate_in_symbol, is_in_production};
+pub use coordinates::{is_coordinate_in_rule, is_coordinate_in_symbol};
 pub use different::{different_names, different_symbols};
 pub use names::Names;
 pub use numbers::{attribute_numbers, numbered, symbol_numbers};

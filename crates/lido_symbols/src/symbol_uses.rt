@@ -6,10 +6,11 @@ ghost use Rattle.lido_syntax.specs.declared.spec.Name.{Name as Named};
 ghost use Rattle.lido_syntax.specs.declared.spec.Comp.{Comp as Computation};
 ghost use Rattle.lido_syntax.specs.declared.spec.Pair.{Pair as OnePair};
 ghost use Rattle.lido_syntax.specs.declared.spec.Typed1.{Typed1 as Typed};
-ghost use Rattle.lido_symbols.specs.Occurrences.{symbols_of_place};
+ghost use Rattle.lido_syntax.specs.declared.spec.RuleItem.{RuleItem as Rule};
+ghost use Rattle.lido_symbols.specs.Occurrences.{symbols_of_place, IsProductionOf};
 ghost use Rattle.lido_symbols.specs.Uses.{element_name, is_coordinate_of_rule, is_coordinate_of_symbol, production_names, symbols_in, symbols_of_computation, symbols_of_item, symbols_of_rule, symbols_of_target, symbol_uses, with_place};
 
-use crate::{is_coordinate_in_rule, is_coordinate_in_symbol, leaves};
+use crate::{Production, is_coordinate_in_symbol, leaves};
 use lido_base::{Memory, Strings};
 use lido_syntax::{
     Comp, Element, Expr, Name, Pair, Place, RuleItem, Spec, SymbolItem, Target, Typed1,
@@ -61,12 +62,12 @@ fn push_leaf(names: &mut Vec<Name>, leaf: &Expr, is_coordinate: bool) -> Result<
 }
 
 /// Whether the leaf of a rule's computation is a coordinate.
-fn is_rule_coordinate(strings: &Strings, rule: &RuleItem, leaf: &Expr) -> bool
-    ensures { (env : Environment) → env.texts ≡ strings.now
-        → symbols_in (is_coordinate_of_rule env rule.now) leaf.now ≡ symbols_in (λ x i. result) leaf.now }
+fn is_rule_coordinate(production: &Production, strings: &Strings, leaf: &Expr) -> bool
+    ensures { (r : Rule) (env : Environment) → IsProductionOf r production.now → env.texts ≡ strings.now
+        → symbols_in (is_coordinate_of_rule env r) leaf.now ≡ symbols_in (λ x i. result) leaf.now }
 {
     match leaf {
-        Expr::Terminal(name, index) => is_coordinate_in_rule(strings, rule, *name, *index),
+        Expr::Terminal(name, index) => production.is_coordinate(strings, *name, *index),
         Expr::Int(..)
         | Expr::Str(..)
         | Expr::Bool(..)
@@ -104,21 +105,21 @@ fn push_target(names: &mut Vec<Name>, target: &Target) -> Result<(), Memory>
     }
 }
 
-/// Adds the names that stand as symbols in a computation of the rule.
+/// Adds the names that stand as symbols in a computation of the production's rule.
 fn push_rule_comp(
     alloc: Global,
     names: &mut Vec<Name>,
+    production: &Production,
     strings: &Strings,
-    rule: &RuleItem,
     comp: &Comp,
 ) -> Result<(), Memory>
-    ensures { OnOk result ((env : Environment) → env.texts ≡ strings.now
-        → names.new.items ≡ names.old.items ++ symbols_of_computation (is_coordinate_of_rule env rule.now) comp.now) }
+    ensures { OnOk result ((r : Rule) (env : Environment) → IsProductionOf r production.now → env.texts ≡ strings.now
+        → names.new.items ≡ names.old.items ++ symbols_of_computation (is_coordinate_of_rule env r) comp.now) }
 {
     push_target(names, &comp.target)?;
     let found = leaves(alloc, comp)?;
     for leaf in &found {
-        push_leaf(names, leaf, is_rule_coordinate(strings, rule, leaf))?;
+        push_leaf(names, leaf, is_rule_coordinate(production, strings, leaf))?;
     }
     Ok(())
 }
@@ -172,9 +173,10 @@ fn push_rule(
     ensures { OnOk result ((env : Environment) (spec : Specification) → env.texts ≡ strings.now
         → names.new.items ≡ names.old.items ++ symbols_of_rule spec env rule.now) }
 {
+    let production = Production::of(alloc, rule)?;
     push_production(names, rule)?;
     for comp in rule.body.as_slice() {
-        push_rule_comp(alloc, names, strings, rule, comp)?;
+        push_rule_comp(alloc, names, &production, strings, comp)?;
     }
     Ok(())
 }

@@ -1,11 +1,9 @@
 //! What a specification says of attributes.
 ghost use Rattle.std.specs.Prelude.{◌≡◌, ◌++◌, [], map, flat_map, IfOk, OnOk};
-ghost use Rattle.std.specs.List.{list_any};
-ghost use Rattle.lido_base.specs.Tree.{contains};
-ghost use Rattle.lido_syntax.specs.Production.{right_of, symbols_of, places_from};
+ghost use Rattle.lido_syntax.specs.Production.{symbols_of, places_from};
 ghost use Rattle.lido_syntax.specs.Attributes.{possible};
 ghost use Rattle.lido_syntax.specs.declared.spec.Comp.{Comp as Computation};
-ghost use Rattle.lido_symbols.specs.Occurrences.{IsProductionOf, names_symbol};
+ghost use Rattle.lido_symbols.specs.Occurrences.{IsProductionOf};
 ghost use Rattle.kind_clashes.specs.Sets.{AreNameSets};
 ghost use Rattle.symbol_attributes.specs.Named.{AreNamed};
 ghost use Rattle.symbol_attributes.specs.Facts.{declared_facts};
@@ -17,7 +15,7 @@ use crate::named::SymbolAttribute;
 use kind_clashes::{NameSets, Names};
 use lido_base::{Kind, Memory, StrId};
 use lido_symbols::{Production, leaves};
-use lido_syntax::{Comp, Decl, Element, Expr, Name, Place, RuleItem, Spec, SymbolItem, Target};
+use lido_syntax::{Comp, Decl, Expr, Name, Place, RuleItem, Spec, SymbolItem, Target};
 use std::alloc::Global;
 
 /// Adds what is said of the attribute on each of these symbols.
@@ -210,30 +208,6 @@ fn push_items(
     Ok(())
 }
 
-/// Whether the element is the symbol.
-fn is_symbol(element: &Element, symbol: StrId) -> bool
-    ensures { result ≡ names_symbol symbol.0 element.now }
-{
-    match element {
-        Element::Symbol(name) => name.id == symbol,
-        Element::Literal(_) => false,
-    }
-}
-
-/// Whether one of the elements is the symbol.
-fn has_symbol(elements: &[Element], symbol: StrId) -> bool
-    ensures { result ≡ list_any (names_symbol symbol.0) elements.now }
-{
-    elements.iter().any(|element| is_symbol(element, symbol))
-}
-
-/// Whether the symbol stands on the rule's right side.
-fn is_on_right(rule: &RuleItem, symbol: StrId) -> bool
-    ensures { result ≡ contains symbol.0 (right_of rule.now) }
-{
-    has_symbol(rule.right.as_slice(), symbol)
-}
-
 /// The side of what stands on the left, or on the right, or on both.
 fn side_by(is_on_left: bool, is_on_right: bool) -> Option<Kind>
     ensures { result ≡ one_side is_on_left is_on_right }
@@ -246,10 +220,11 @@ fn side_by(is_on_left: bool, is_on_right: bool) -> Option<Kind>
 }
 
 /// The side of the rule on which the symbol stands, if it is one side.
-fn side_of_symbol(rule: &RuleItem, symbol: StrId) -> Option<Kind>
+fn side_of_symbol(production: &Production, rule: &RuleItem, symbol: StrId) -> Option<Kind>
+    requires { IsProductionOf rule.now production.now }
     ensures { result ≡ side_of (places_from 0 symbol.0 (symbols_of rule.now)) }
 {
-    side_by(symbol.0 == rule.left.id.0, is_on_right(rule, symbol))
+    side_by(symbol.0 == rule.left.id.0, production.is_right(symbol))
 }
 
 /// The side of the rule on which all occurrences are that the name can mean, if it is one side.
@@ -260,7 +235,7 @@ fn side(production: &Production, rule: &RuleItem, name: Name, index: Option<i64>
     match production.occurrence(name, index) {
         Some(0) => Some(Kind::Synthesized),
         Some(_) => Some(Kind::Inherited),
-        None => side_of_symbol(rule, name.id),
+        None => side_of_symbol(production, rule, name.id),
     }
 }
 

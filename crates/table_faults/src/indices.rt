@@ -9,7 +9,7 @@ ghost use Rattle.table_faults.specs.Indices.{IsBadPlace, IsBadBare, IsBadLeaf, I
 
 use kind_clashes::earlier;
 use lido_base::{Memory, Strings};
-use lido_symbols::{Production, is_coordinate_in_rule, leaves};
+use lido_symbols::{Production, leaves};
 use lido_syntax::{Comp, Expr, Name, Place, RuleItem, Spec, Target};
 use std::alloc::Global;
 
@@ -36,7 +36,7 @@ fn bad_bare(
     requires { IsProductionOf rule.now production.now }
     ensures { IsFirst (IsBadBare strings.now rule.now name index) result }
 {
-    if is_coordinate_in_rule(strings, rule, name, index) {
+    if production.is_coordinate(strings, name, index) {
         return None;
     }
     match production.occurrence(name, index) {

@@ -4,6 +4,7 @@ ghost use Rattle.lido_base.specs.Environment.{Environment};
 ghost use Rattle.lido_syntax.specs.declared.spec.RuleItem.{RuleItem as Rule};
 ghost use Rattle.lido_syntax.specs.declared.spec.SymbolItem.{SymbolItem as Item};
 ghost use Rattle.lido_syntax.specs.Production.{name_of};
+ghost use Rattle.lido_symbols.specs.Occurrences.{IsProductionOf};
 ghost use Rattle.kind_clashes.specs.Least.{IsFirst, Among};
 ghost use Rattle.kind_clashes.specs.Sets.{AreNameSets};
 ghost use Rattle.table_faults.specs.Faults.{IsUnknown};
@@ -13,9 +14,7 @@ ghost use Rattle.table_faults.specs.Unknown.{IsForeignLeaf, IsForeignComp, IsNam
 
 use kind_clashes::{NameSets, earlier};
 use lido_base::{Memory, StrId, Strings};
-use lido_symbols::{
-    is_coordinate_in_rule, is_coordinate_in_symbol, is_in_production, leaves, symbol_names,
-};
+use lido_symbols::{Production, is_coordinate_in_symbol, leaves, symbol_names};
 use lido_syntax::{Comp, Expr, Name, Place, RuleItem, Spec, SymbolItem, Target};
 use std::alloc::Global;
 
@@ -46,92 +45,130 @@ fn least_unknown_name(sets: &NameSets, names: &[Name]) -> Option<u32>
     least
 }
 
-fn if_strange(rule: &RuleItem, name: Name) -> Option<u32>
+fn if_strange(production: &Production, rule: &RuleItem, name: Name) -> Option<u32>
+    requires { IsProductionOf rule.now production.now }
     ensures { IsFirst (IsStrange rule.now name) result }
 {
-    if is_in_production(rule, name.id) {
+    if production.has(name.id) {
         None
     } else {
         Some(name.at)
     }
 }
 
-fn foreign_place(rule: &RuleItem, first: u32, place: Place) -> Option<u32>
+fn foreign_place(production: &Production, rule: &RuleItem, first: u32, place: Place) -> Option<u32>
+    requires { IsProductionOf rule.now production.now }
     ensures { IsFirst (IsForeignPlace rule.now first place) result }
 {
     match place {
-        Place::Named(name, _) => if_strange(rule, name),
+        Place::Named(name, _) => if_strange(production, rule, name),
         Place::Tail => None,
         Place::Synt | Place::Inh | Place::This => Some(first),
     }
 }
 
-fn foreign_target(rule: &RuleItem, first: u32, target: &Target) -> Option<u32>
+fn foreign_target(
+    production: &Production,
+    rule: &RuleItem,
+    first: u32,
+    target: &Target,
+) -> Option<u32>
+    requires { IsProductionOf rule.now production.now }
     ensures { IsFirst (IsForeignTarget rule.now first target.now) result }
 {
     match target {
-        Target::Attr(place, _) => foreign_place(rule, first, *place),
+        Target::Attr(place, _) => foreign_place(production, rule, first, *place),
         _ => None,
     }
 }
 
-fn foreign_bare(strings: &Strings, rule: &RuleItem, name: Name, index: Option<i64>) -> Option<u32>
+fn foreign_bare(
+    production: &Production,
+    strings: &Strings,
+    rule: &RuleItem,
+    name: Name,
+    index: Option<i64>,
+) -> Option<u32>
+    requires { IsProductionOf rule.now production.now }
     ensures { IsFirst (IsForeignBare strings.now rule.now name index) result }
 {
-    if is_coordinate_in_rule(strings, rule, name, index) {
+    if production.is_coordinate(strings, name, index) {
         return None;
     }
-    if_strange(rule, name)
+    if_strange(production, rule, name)
 }
 
-fn foreign_leaf(strings: &Strings, rule: &RuleItem, leaf: &Expr) -> Option<u32>
+fn foreign_leaf(
+    production: &Production,
+    strings: &Strings,
+    rule: &RuleItem,
+    leaf: &Expr,
+) -> Option<u32>
+    requires { IsProductionOf rule.now production.now }
     ensures { IsFirst (IsForeignLeaf strings.now rule.now leaf.now) result }
 {
     match leaf {
-        Expr::Terminal(name, index) => foreign_bare(strings, rule, *name, *index),
-        Expr::Read(first, place, _) => foreign_place(rule, *first, *place),
+        Expr::Terminal(name, index) => foreign_bare(production, strings, rule, *name, *index),
+        Expr::Read(first, place, _) => foreign_place(production, rule, *first, *place),
         _ => None,
     }
 }
 
-fn least_foreign_leaf(strings: &Strings, rule: &RuleItem, leaves: &[&Expr]) -> Option<u32>
+fn least_foreign_leaf(
+    production: &Production,
+    strings: &Strings,
+    rule: &RuleItem,
+    leaves: &[&Expr],
+) -> Option<u32>
+    requires { IsProductionOf rule.now production.now }
     ensures { IsFirst (Among (IsForeignLeaf strings.now rule.now) (map (λ e. e.now) leaves.now)) result }
 {
     let mut least = None;
     for leaf in leaves {
-        least = earlier(least, foreign_leaf(strings, rule, *leaf));
+        least = earlier(least, foreign_leaf(production, strings, rule, *leaf));
     }
     least
 }
 
 fn foreign_comp(
     alloc: Global,
+    production: &Production,
     strings: &Strings,
     rule: &RuleItem,
     comp: &Comp,
 ) -> Result<Option<u32>, Memory>
+    requires { IsProductionOf rule.now production.now }
     ensures { IfOk result (IsFirst (IsForeignComp strings.now rule.now comp.now)) }
 {
     let all = leaves(alloc, comp)?;
     Ok(earlier(
-        foreign_target(rule, comp.at, &comp.target),
-        least_foreign_leaf(strings, rule, all.as_slice()),
+        foreign_target(production, rule, comp.at, &comp.target),
+        least_foreign_leaf(production, strings, rule, all.as_slice()),
     ))
 }
 
 fn foreign_in_body(
     alloc: Global,
+    production: &Production,
     strings: &Strings,
     rule: &RuleItem,
     body: &[Comp],
 ) -> Result<Option<u32>, Memory>
+    requires { IsProductionOf rule.now production.now }
     ensures { IfOk result (IsFirst (Among (IsForeignComp strings.now rule.now) body.now)) }
 {
     let mut least = None;
     for comp in body {
-        least = earlier(least, foreign_comp(alloc, strings, rule, comp)?);
+        least = earlier(least, foreign_comp(alloc, production, strings, rule, comp)?);
     }
     Ok(least)
+}
+
+fn foreign_in_rule(alloc: Global, strings: &Strings, rule: &RuleItem) -> Result<Option<u32>, Memory>
+    ensures { IfOk result (IsFirst (Among (IsForeignComp strings.now rule.now) rule.now.body)) }
+{
+    let production = Production::of(alloc, rule)?;
+    foreign_in_body(alloc, &production, strings, rule, rule.body.as_slice())
 }
 
 fn foreign_in_rules(
@@ -143,10 +180,7 @@ fn foreign_in_rules(
 {
     let mut least = None;
     for rule in rules {
-        least = earlier(
-            least,
-            foreign_in_body(alloc, strings, rule, rule.body.as_slice())?,
-        );
+        least = earlier(least, foreign_in_rule(alloc, strings, rule)?);
     }
     Ok(least)
 }

@@ -9,7 +9,7 @@ loop-comp-init c env e = collected_none (symbols_of_computation (is_coordinate_o
 pub loop-comp-preserved : goal.loop-comp-preserved
 loop-comp-preserved c env e =
     collected_more (symbols_of_computation (is_coordinate_of_rule env c.args.rule.now)) c.as_slice-comp-items.result.now c.loop-comp.comp-index c.comp-item.result c.comp-item.result
-    c.push_production.new.names.items c.loop-comp.names.items c.push_rule_comp.new.names.items c.loop-comp-test.true c.comp-item.is (c.loop-comp.invariant env e) (c.in_ok-push_rule_comp.ensures env e)
+    c.push_production.new.names.items c.loop-comp.names.items c.push_rule_comp.new.names.items c.loop-comp-test.true c.comp-item.is (c.loop-comp.invariant env e) (c.in_ok-push_rule_comp.ensures c.args.rule.now env c.in_ok-production.ensures e)
 
 pub returns : goal.returns
 returns c env spec e =

@@ -1,7 +1,7 @@
 -- The CONSTITUENTS that lack a WITH by the tables are those of the definition.
-use Rattle.std.specs.Prelude.{Contains, IsTrue, slice_get, ◌↔◌, ◌&&◌, ◌||◌, not, nat_eq, find, filter_map, option_map, flat_map, map, if◌then◌else◌}
+use Rattle.std.specs.Prelude.{Contains, IsTrue, slice_get, ◌&&◌, ◌||◌, not, nat_eq, find, option_map, flat_map, map, if◌then◌else◌}
 use Rattle.std.specs.List.{list_any}
-use Rattle.std.proofs.Common.{◌≡◌, ◌∙◌, ℕ, ◌<◌, ◌⊎◌, length, inl, inr, Bool, true, false, List, [], ◌∷◌, ◌++◌, Option, Some, None, refl, sym, ap, subst, arith, eqb-true, eq-eqb, append_assoc}
+use Rattle.std.proofs.Common.{◌≡◌, ◌∙◌, ℕ, ◌<◌, ◌⊎◌, length, inl, inr, Bool, true, false, List, [], ◌∷◌, ◌++◌, Option, Some, None, refl, sym, ap, subst, eqb-true, eq-eqb, append_assoc}
 use Rattle.std.proofs.lemmas.Option.{none-some, same_Some}
 use Rattle.std.proofs.lemmas.List.Elements.{All-contains, Contains-append_left, Contains-append_right, Contains-append_cases}
 use Rattle.lido_base.specs.Environment.{Environment}
@@ -15,15 +15,14 @@ use Rattle.lido_syntax.specs.declared.spec.Comp.{Comp}
 use Rattle.lido_syntax.specs.declared.spec.Cons.{Cons}
 use Rattle.lido_syntax.specs.declared.spec.With.{With}
 use Rattle.lido_syntax.specs.declared.spec.Pair.{Pair}
-use Rattle.lido_syntax.specs.declared.spec.Name.{Name}
 use Rattle.lido_syntax.specs.declared.spec.Place.TheVariants as place
 use Rattle.lido_syntax.specs.declared.spec.RuleItem.{RuleItem}
 use Rattle.lido_syntax.specs.declared.spec.SymbolItem.{SymbolItem}
 use Rattle.lido_syntax.specs.declared.spec.Expr.{Expr, Constituents}
 use Rattle.lido_syntax.specs.Parts.{leaves, leaves_of, conditions, expressions_of}
 use Rattle.lido_syntax.specs.Production.{name_of, left_of, right_of}
-use Rattle.lido_syntax.specs.Symbols.{is_nonterminal, IsNonterminal, IsChain}
-use Rattle.lido_syntax.specs.Sets.{Sets, Inherits, stands_for, names_of}
+use Rattle.lido_syntax.specs.Symbols.{is_nonterminal, IsChain}
+use Rattle.lido_syntax.specs.Sets.{Sets, stands_for, names_of}
 use Rattle.lido_syntax.specs.Including.{listed}
 use Rattle.lido_syntax.specs.Attributes.{Has, HasType, InText, IsNamed, IsUse, use_of_pair}
 use Rattle.lido_symbols.specs.FromText.{IsFromText}
@@ -33,7 +32,6 @@ use Rattle.symbol_attributes.specs.Written.{IsWrittenAttribute}
 use Rattle.symbol_attributes.proofs.UsesLemmas.{of-leaf}
 use Rattle.rule_tables.specs.declared.table.Tables.{Tables}
 use Rattle.rule_tables.specs.declared.table.SymbolRow.{SymbolRow}
-use Rattle.rule_tables.specs.declared.table.SymbolClass.TheVariants as class
 use Rattle.rule_tables.specs.ExpansionFaults.{leaves_of_value, IsWithoutWith}
 use Rattle.rule_tables.specs.Needs.{Tables as Numbered}
 use Rattle.rule_tables.specs.TablesOf.{named_symbols, AreTablesOf, IsRowOf}
@@ -45,7 +43,7 @@ use Rattle.need_graphs.proofs.RangeLemmas.{named}
 use Rattle.constituents_expand.specs.declared.symbols.Symbols.{Symbols}
 use Rattle.constituents_expand.specs.Listings.{AreSymbols, is_nonterminal_class, listed_by, gives_value, is_void}
 use Rattle.constituents_expand.specs.Uses.{Standing, use_of, uses_in, uses_of, text_uses}
-use Rattle.constituents_expand.specs.Faults.{is_without, lacks_with, IsLackAt}
+use Rattle.constituents_expand.specs.Faults.{is_without, IsLackAt}
 use Rattle.constituents_expand.specs.Named.{AreNamed}
 use Rattle.constituents_expand.proofs.ListingLemmas.{text, row-at, cell-at, kind-same, listed-row}
 

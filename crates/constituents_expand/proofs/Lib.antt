@@ -5,3 +5,7 @@ pub mod FaultLemmas
 pub mod ShareLemmas
 pub mod PlainLemmas
 pub mod OrderLemmas
+pub mod GatherLemmas
+pub mod SourceLemmas
+pub mod ExtraLemmas
+pub mod ExpandLemmas

@@ -1,8 +1,8 @@
 -- What the tables tell of lists and shields is what the definition says.
-use Rattle.std.specs.Prelude.{Contains, IsTrue, slice_get, ◌↔◌, ◌&&◌, ◌||◌, not, nat_eq, find, filter, unwrap_or, option_map, is_some, if◌then◌else◌, filter_map, option_to_list}
+use Rattle.std.specs.Prelude.{Contains, slice_get, ◌&&◌, ◌||◌, not, nat_eq, find, filter, option_map, if◌then◌else◌, filter_map, option_to_list}
 use Rattle.std.specs.List.{list_any}
-use Rattle.std.proofs.Common.{◌≡◌, ◌∙◌, ℕ, zero, suc, ◌+◌, ◌-◌, ◌<◌, ◌≤◌, inl, inr, Bool, true, false, List, [], ◌∷◌, length, Option, Some, None, refl, sym, ap, subst, arith, zero-add, ◌++◌, take, get_or, append-nil}
-use Rattle.std.proofs.lemmas.Option.{none-some, same_Some, slice_get_within}
+use Rattle.std.proofs.Common.{◌≡◌, ◌∙◌, ℕ, zero, suc, ◌+◌, ◌-◌, ◌<◌, ◌≤◌, true, false, List, [], ◌∷◌, length, Option, Some, None, refl, sym, ap, arith, zero-add, ◌++◌, take, get_or, append-nil}
+use Rattle.std.proofs.lemmas.Option.{none-some, slice_get_within}
 use Rattle.lido_base.specs.Environment.{Environment}
 use Rattle.lido_base.specs.declared.ids.StrId.{StrId}
 use Rattle.lido_base.proofs.Lists.{contains-map, place-contains, place-below}
@@ -11,8 +11,8 @@ use Rattle.lido_syntax.specs.declared.spec.Pair.{Pair}
 use Rattle.lido_syntax.specs.declared.spec.Cons.{Cons}
 use Rattle.lido_syntax.specs.declared.spec.RuleItem.{RuleItem}
 use Rattle.lido_syntax.specs.Production.{name_of}
-use Rattle.lido_syntax.specs.Symbols.{is_nonterminal, IsNonterminal}
-use Rattle.lido_syntax.specs.Sets.{Sets, stands_for, is_source, is_shield}
+use Rattle.lido_syntax.specs.Symbols.{is_nonterminal}
+use Rattle.lido_syntax.specs.Sets.{Sets, stands_for, is_shield}
 use Rattle.lido_syntax.specs.Including.{listed}
 use Rattle.lido_symbols.specs.Numbers.{enumerated}
 use Rattle.symbol_attributes.specs.Inheritance.{number, is_heir}

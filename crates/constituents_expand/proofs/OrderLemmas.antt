@@ -1,11 +1,11 @@
 -- The order of the added attributes and computations.
 use Rattle.std.specs.Prelude.{Contains, All, AllPairs, flat_map, filter_map}
 use Rattle.std.specs.List.{cons_option}
-use Rattle.std.proofs.Common.{◌≡◌, ◌∙◌, ℕ, zero, suc, ◌+◌, ◌<◌, inl, inr, Bool, true, false, if◌then◌else◌, List, [], ◌∷◌, ◌++◌, length, Option, Some, None, refl, sym, ap, subst, arith}
+use Rattle.std.proofs.Common.{◌≡◌, ◌∙◌, ℕ, suc, ◌<◌, inl, inr, Bool, true, false, if◌then◌else◌, List, [], ◌∷◌, ◌++◌, length, Option, Some, None, refl, sym, subst, arith}
 use Rattle.std.proofs.lemmas.Option.{none-some, same_Some}
 use Rattle.std.proofs.lemmas.List.Kept.{AllPairs-cons}
 use Rattle.std.proofs.lemmas.List.Elements.{All-cons, All-nil, Contains-append_cases}
-use Rattle.lido_base.proofs.Lists.{contains-nil, contains-cons, contains-here, contains-later, contains-flat}
+use Rattle.lido_base.proofs.Lists.{contains-here, contains-later, contains-flat}
 use Rattle.lido_syntax.specs.declared.spec.RuleItem.{RuleItem}
 use Rattle.lido_symbols.specs.Numbers.{enumerated}
 use Rattle.flat_grammar.specs.declared.flat.FlatRule.{FlatRule}
@@ -14,7 +14,6 @@ use Rattle.need_graphs.proofs.ListLemmas.{enumerated-place, contains-filtered}
 use Rattle.rule_tables.specs.declared.table.SymbolRow.{SymbolRow}
 use Rattle.rule_tables.specs.declared.extra.ExtraAttr.{ExtraAttr}
 use Rattle.rule_tables.specs.declared.extra.ExtraComp.{ExtraComp}
-use Rattle.rule_tables.specs.declared.extra.Slot.TheVariants as named
 use Rattle.rule_tables.specs.ExtraOf.{group_of, within_of, IsBeforeIn, attr_place, comp_place}
 use Rattle.constituents_expand.specs.declared.weights.Gathering.{Gathering}
 use Rattle.constituents_expand.specs.Extras.{made_attr, attr_of, symbol_attrs, all_attrs, is_whole, made_comp, comp_of, rule_comps, all_comps}

@@ -1,7 +1,7 @@
 -- The weight of a left side is that of the definition.
-use Rattle.std.specs.Prelude.{Contains, IsTrue, slice_get, ◌&&◌, ◌||◌, not, map, filter, filter_map, if◌then◌else◌, option_map, option_to_list, is_some}
+use Rattle.std.specs.Prelude.{slice_get, ◌&&◌, ◌||◌, map, filter, filter_map, if◌then◌else◌, option_map, option_to_list, is_some}
 use Rattle.std.specs.List.{AllZip, cons_option}
-use Rattle.std.proofs.Common.{◌≡◌, ◌∙◌, ℕ, zero, suc, ◌+◌, ◌<◌, ◌≤◌, Bool, true, false, List, [], ◌∷◌, ◌++◌, length, Option, Some, None, refl, sym, ap, subst, arith}
+use Rattle.std.proofs.Common.{◌≡◌, ◌∙◌, ℕ, suc, ◌+◌, ◌≤◌, Bool, true, false, List, [], ◌∷◌, ◌++◌, length, Option, Some, None, refl, sym, ap, subst, arith}
 use Rattle.std.proofs.lemmas.Option.{slice_get-map}
 use Rattle.lido_base.specs.declared.ids.AttrId.{AttrId}
 use Rattle.lido_base.specs.declared.ids.SymId.{SymId}
@@ -20,8 +20,8 @@ use Rattle.rule_tables.specs.PlainRules.{PlainRule, Role, Whole, Listing, Link, 
 use Rattle.rule_tables.specs.Forced.{Force}
 use Rattle.rule_tables.specs.ForcedOf.{IsAttributeAt}
 use Rattle.rule_tables.specs.Needs.{Tables as Numbered, Needs}
-use Rattle.rule_tables.specs.Slots.{Slot, Written, Con}
-use Rattle.rule_tables.specs.Shares.{Term, Read, Void, Comb, Single, Null, folded, below_by}
+use Rattle.rule_tables.specs.Slots.{Written, Con}
+use Rattle.rule_tables.specs.Shares.{Term, Read, Void, Comb, Single, folded, below_by}
 use Rattle.rule_tables.specs.ExtraOf.{IsSlotOf, IsPieceAs, AreJoined, IsTermAs}
 use Rattle.least_paths.specs.Graph.{is_in}
 use Rattle.constituents_expand.specs.declared.weights.Gathering.{Gathering}

@@ -1,5 +1,5 @@
 -- The attributes of CONSTITUENTS and their computations, as the tables tell them.
-use Rattle.std.specs.Prelude.{ℕ, Bool, true, false, not, if◌then◌else◌, List, filter_map, flat_map, Option, Some, None, slice_get}
+use Rattle.std.specs.Prelude.{ℕ, Bool, false, not, if◌then◌else◌, List, filter_map, flat_map, Option, Some, None, slice_get}
 use Rattle.lido_base.specs.declared.kinds.Kind.TheVariants as kind
 use Rattle.lido_base.specs.declared.value.ValueType.{ValueType}
 use Rattle.lido_base.specs.declared.value.ValueType.TheVariants as type

@@ -5,3 +5,5 @@ pub mod Faults
 pub mod Named
 pub mod Weights
 pub mod Extras
+pub mod Gatherings
+pub mod Expanded

@@ -1,0 +1,9 @@
+//! Copies of written expressions in the flat grammar.
+#![tactic(auto)]
+
+mod calls;
+mod copies;
+mod ops;
+
+pub use copies::{Leaves, copy};
+pub use ops::Ops;

@@ -83,7 +83,7 @@ goes_on (takes p) q = takes (goes_on p q)
 goes_on (notes p) q = notes (goes_on p q)
 
 -- what takes these, takes as many under another name
-same_marks : {n m : ℕ} {ts us : List Token} {xs ys : List Mark} → xs ≡ ys → Takes n ts xs m us → Takes n ts ys m us
+pub same_marks : {n m : ℕ} {ts us : List Token} {xs ys : List Mark} → xs ≡ ys → Takes n ts xs m us → Takes n ts ys m us
 same_marks {n} {m} {ts} {us} e p = subst (λ z. Takes n ts z m us) e p
 
 -- ---- phrases that take none
@@ -91,117 +91,117 @@ same_marks {n} {m} {ts} {us} e p = subst (λ z. Takes n ts z m us) e p
 pub record IsPassed {X : Type 0} (N : List Token → X → List Token → Type 0) : Type 0 where
   pub none : (ts : List Token) (x : X) (us : List Token) → N ts x us → (n : ℕ) → Takes n ts [] n us
 
-done_passed : {X : Type 0} {x : X} → IsPassed (Done x)
+pub done_passed : {X : Type 0} {x : X} → IsPassed (Done x)
 done_passed = record { none = λ ts y us p n. subst (λ z. Takes n ts [] n z) (sym p.behind) nothing_left }
 
-then_passed : {A X : Type 0} {F : List Token → A → List Token → Type 0} {R : A → List Token → X → List Token → Type 0} → IsPassed F → ((a : A) → IsPassed (R a)) → IsPassed (Then F R)
+pub then_passed : {A X : Type 0} {F : List Token → A → List Token → Type 0} {R : A → List Token → X → List Token → Type 0} → IsPassed F → ((a : A) → IsPassed (R a)) → IsPassed (Then F R)
 then_passed f r = record { none = λ ts x us p n. goes_on (f.none ts p.value p.between p.first n) ((r p.value).none p.between x us p.rest n) }
 
-seen : {what : TokenKind} (ts : List Token) (t : Token) (us : List Token) → Sees what ts t us → (n : ℕ) → Takes n ts [] n us
+pub seen : {what : TokenKind} (ts : List Token) (t : Token) (us : List Token) → Sees what ts t us → (n : ℕ) → Takes n ts [] n us
 seen ts t us (token e) n = passes nothing_left
 
-sees_passed : {what : TokenKind} → IsPassed (Sees what)
+pub sees_passed : {what : TokenKind} → IsPassed (Sees what)
 sees_passed = record { none = seen }
 
 module _ {X : Type 0} {N : List Token → X → List Token → Type 0} (one : IsPassed N) where
-  more : (f : List X) (ts : List Token) (x : List X) (us : List Token) → AreMore N f ts x us → (n : ℕ) → Takes n ts [] n us
+  pub more : (f : List X) (ts : List Token) (x : List X) (us : List Token) → AreMore N f ts x us → (n : ℕ) → Takes n ts [] n us
   more f ts x us phrases.end n = nothing_left
   more f ts x ws (phrases.comma {x = item} {us = us} {vs = vs} {t = t} c p q) n = goes_on (seen ts t us c n) (goes_on (one.none us item vs p n) (more (f ++ item ∷ []) vs x ws q n))
 
-  more_passed : (f : List X) → IsPassed (AreMore N f)
+  pub more_passed : (f : List X) → IsPassed (AreMore N f)
   more_passed f = record { none = more f }
 
-  separated_passed : IsPassed (AreSeparated N)
+  pub separated_passed : IsPassed (AreSeparated N)
   separated_passed = then_passed one (λ a. more_passed (a ∷ []))
 
-  listed : (ts : List Token) (x : List X) (us : List Token) → AreListed N ts x us → (n : ℕ) → Takes n ts [] n us
+  pub listed : (ts : List Token) (x : List X) (us : List Token) → AreListed N ts x us → (n : ℕ) → Takes n ts [] n us
   listed ts x us (places.single {x = item} p) n = one.none ts item us p n
   listed ts x us (places.several p) n = (then_passed sees_passed (λ a. then_passed separated_passed (λ b. then_passed sees_passed (λ c. done_passed)))).none ts x us p n
 
-  listed_passed : IsPassed (AreListed N)
+  pub listed_passed : IsPassed (AreListed N)
   listed_passed = record { none = listed }
 
-  optional : (v : X) (ts : List Token) (x : X) (us : List Token) → Optional N v ts x us → (n : ℕ) → Takes n ts [] n us
+  pub optional : (v : X) (ts : List Token) (x : X) (us : List Token) → Optional N v ts x us → (n : ℕ) → Takes n ts [] n us
   optional v ts x us (absent e) n = nothing_left
   optional v ts x us (present p) n = one.none ts x us p n
 
-  optional_passed : {v : X} → IsPassed (Optional N v)
+  pub optional_passed : {v : X} → IsPassed (Optional N v)
   optional_passed {v} = record { none = optional v }
 
 module _ {Y : Type 0} {Step : Y → List Token → Y → List Token → Type 0} (step : (y : Y) → IsPassed (Step y)) where
-  repeats : (f : Y) (ts : List Token) (x : Y) (us : List Token) → Repeats Step f ts x us → (n : ℕ) → Takes n ts [] n us
+  pub repeats : (f : Y) (ts : List Token) (x : Y) (us : List Token) → Repeats Step f ts x us → (n : ℕ) → Takes n ts [] n us
   repeats f ts x us items.end n = nothing_left
   repeats f ts x vs (items.next {more = m} {us = us} p q) n = goes_on ((step f).none ts m us p n) (repeats m us x vs q n)
 
-  repeats_passed : {f : Y} → IsPassed (Repeats Step f)
+  pub repeats_passed : {f : Y} → IsPassed (Repeats Step f)
   repeats_passed {f} = record { none = repeats f }
 
-a_name : (ts : List Token) (x : Name) (us : List Token) → IsName ts x us → (n : ℕ) → Takes n ts [] n us
+pub a_name : (ts : List Token) (x : Name) (us : List Token) → IsName ts x us → (n : ℕ) → Takes n ts [] n us
 a_name ts x us (word e) n = passes nothing_left
 
-name_passed : IsPassed IsName
+pub name_passed : IsPassed IsName
 name_passed = record { none = a_name }
 
-a_type : (ts : List Token) (x : _) (us : List Token) → IsType ts x us → (n : ℕ) → Takes n ts [] n us
+pub a_type : (ts : List Token) (x : _) (us : List Token) → IsType ts x us → (n : ℕ) → Takes n ts [] n us
 a_type ts x us (type_word e d) n = passes nothing_left
 
-type_passed : IsPassed IsType
+pub type_passed : IsPassed IsType
 type_passed = record { none = a_type }
 
-an_int : (ts : List Token) (x : _) (us : List Token) → IsInt ts x us → (n : ℕ) → Takes n ts [] n us
+pub an_int : (ts : List Token) (x : _) (us : List Token) → IsInt ts x us → (n : ℕ) → Takes n ts [] n us
 an_int ts x us (int e) n = passes nothing_left
 
-index_passed : IsPassed IsIndex
+pub index_passed : IsPassed IsIndex
 index_passed = optional_passed (then_passed sees_passed (λ a. then_passed (record { none = an_int }) (λ b. then_passed sees_passed (λ c. done_passed))))
 
-a_context : {words : Keyword → Option Place} (ts : List Token) (x : _) (us : List Token) → IsContext words ts x us → (n : ℕ) → Takes n ts [] n us
+pub a_context : {words : Keyword → Option Place} (ts : List Token) (x : _) (us : List Token) → IsContext words ts x us → (n : ℕ) → Takes n ts [] n us
 a_context ts x us (context e d) n = passes nothing_left
 
-a_place : {words : Keyword → Option Place} (ts : List Token) (x : _) (us : List Token) → IsPlace words ts x us → (n : ℕ) → Takes n ts [] n us
+pub a_place : {words : Keyword → Option Place} (ts : List Token) (x : _) (us : List Token) → IsPlace words ts x us → (n : ℕ) → Takes n ts [] n us
 a_place ts x us (named p) n = (then_passed name_passed (λ a. then_passed index_passed (λ b. done_passed))).none ts x us p n
 a_place ts x us (by_word p) n = a_context ts x us p n
 
-place_passed : {words : Keyword → Option Place} → IsPassed (IsPlace words)
+pub place_passed : {words : Keyword → Option Place} → IsPassed (IsPlace words)
 place_passed = record { none = a_place }
 
-read_passed : IsPassed IsRead
+pub read_passed : IsPassed IsRead
 read_passed = then_passed place_passed (λ p. then_passed sees_passed (λ a. then_passed name_passed (λ b. done_passed)))
 
-pair_passed : IsPassed IsPair
+pub pair_passed : IsPassed IsPair
 pair_passed = then_passed name_passed (λ a. then_passed sees_passed (λ b. then_passed name_passed (λ c. done_passed)))
 
-with_passed : IsPassed IsWith
+pub with_passed : IsPassed IsWith
 with_passed = optional_passed (then_passed sees_passed (λ t. then_passed sees_passed (λ a. then_passed type_passed (λ b. then_passed sees_passed (λ c. then_passed name_passed (λ d. then_passed sees_passed (λ e. then_passed name_passed (λ f.
     then_passed sees_passed (λ g. then_passed name_passed (λ h. then_passed sees_passed (λ i. done_passed)))))))))))
 
-constituents_of_passed : {at n : ℕ} → IsPassed (AreConstituentsOf at n)
+pub constituents_of_passed : {at n : ℕ} → IsPassed (AreConstituentsOf at n)
 constituents_of_passed = then_passed (listed_passed pair_passed) (λ a. then_passed (optional_passed (then_passed sees_passed (λ t. listed_passed name_passed))) (λ b. then_passed with_passed (λ c. done_passed)))
 
 -- ---- expressions
 
 -- a CONSTITUENTS takes one number, at its word
-constituents : (n : ℕ) (ts us : List Token) (k : Cons) → AreConstituents n ts k us → Takes n ts (marks_in (expr.Constituents k)) (n + 1) us
+pub constituents : (n : ℕ) (ts us : List Token) (k : Cons) → AreConstituents n ts k us → Takes n ts (marks_in (expr.Constituents k)) (n + 1) us
 constituents n ts us k p = go ts us k p.between p.value p.first p.rest
   where
     go : (ts us : List Token) (k : Cons) (ms : List Token) (t : Token) → Keys key.Constituents ts t ms → AreConstituentsOf t.from n ms k us → Takes n ts (marks_in (expr.Constituents k)) (n + 1) us
     go ts us k ms t (token e) q = same_marks (sym (ap (λ (z : Cons). marks_in (expr.Constituents z)) q.rest.rest.rest.same)) (takes (constituents_of_passed.none ms k us q (n + 1)))
 
 -- an INCLUDING takes its place, at its word
-including : (n : ℕ) (ts us : List Token) (e : Expr) → IsIncluding ts e us → Takes n ts (marks_in e) n us
+pub including : (n : ℕ) (ts us : List Token) (e : Expr) → IsIncluding ts e us → Takes n ts (marks_in e) n us
 including n ts us e p = go ts us e p.between p.value p.first p.rest
   where
     go : (ts us : List Token) (e : Expr) (ms : List Token) (t : Token) → Keys key.Including ts t ms → IsIncludingOf t.from ms e us → Takes n ts (marks_in e) n us
     go ts us e ms t (token d) q = same_marks (sym (ap marks_in q.rest.same)) (notes ((then_passed (listed_passed pair_passed) (λ a. done_passed)).none ms e us q n))
 
-marks_of_all : (args : List Expr) → flat_map mark_of_part (flat_map parts args) ≡ flat_map marks_in args
+pub marks_of_all : (args : List Expr) → flat_map mark_of_part (flat_map parts args) ≡ flat_map marks_in args
 marks_of_all [] = refl
 marks_of_all (e ∷ args) = flat_map-append mark_of_part (parts e) (flat_map parts args) ∙ ap (λ more. marks_in e ++ more) (marks_of_all args)
 
 -- the numbers of a call are those of its arguments
-marks-Call : (f : Name) (args : List Expr) → marks_in (expr.Call f args) ≡ flat_map marks_in args
+pub marks-Call : (f : Name) (args : List Expr) → marks_in (expr.Call f args) ≡ flat_map marks_in args
 marks-Call f args = ap (flat_map mark_of_part) (parts-Call f args) ∙ marks_of_all args
 
-constant_marks : (at : ℕ) (what : TokenKind) (e : Expr) → constant_of at what ≡ Some e → marks_in e ≡ []
+pub constant_marks : (at : ℕ) (what : TokenKind) (e : Expr) → constant_of at what ≡ Some e → marks_in e ≡ []
 constant_marks at (kind.Int i) e d = let same : e ≡ expr.Int at i = cc in ap marks_in same
 constant_marks at (kind.Str s) e d = let same : e ≡ expr.Str at s = cc in ap marks_in same
 constant_marks at (kind.Key key.True) e d = let same : e ≡ expr.Bool at true = cc in ap marks_in same
@@ -209,23 +209,23 @@ constant_marks at (kind.Key key.False) e d = let same : e ≡ expr.Bool at false
 constant_marks at _ e d = cc
 
 -- what is spent takes no number
-spent_number : (b n : ℕ) (r : Counts) → spent_of b n ≡ Some r → r.number ≡ n
+pub spent_number : (b n : ℕ) (r : Counts) → spent_of b n ≡ Some r → r.number ≡ n
 spent_number zero n r e = cc
 spent_number (suc b) n r e = let same : r ≡ record { budget = b; number = n } = cc in ap (λ (z : Counts). z.number) same
 
-nil : (xs : List Mark) → xs ++ [] ≡ xs
+pub nil : (xs : List Mark) → xs ++ [] ≡ xs
 nil [] = refl
 nil (x ∷ xs) = ap (λ z. x ∷ z) (nil xs)
 
-pushed : {A : Type 0} (f : A → List Mark) (found : List A) (e : A) → flat_map f found ++ f e ≡ flat_map f (found ++ e ∷ [])
+pub pushed : {A : Type 0} (f : A → List Mark) (found : List A) (e : A) → flat_map f found ++ f e ≡ flat_map f (found ++ e ∷ [])
 pushed f [] e = sym (nil (f e))
 pushed f (x ∷ found) e = append_assoc (f x) (flat_map f found) (f e) ∙ ap (λ more. f x ++ more) (pushed f found e)
 
-one_more : (found : List Expr) (e : Expr) → flat_map marks_in found ++ marks_in e ≡ flat_map marks_in (found ++ e ∷ [])
+pub one_more : (found : List Expr) (e : Expr) → flat_map marks_in found ++ marks_in e ≡ flat_map marks_in (found ++ e ∷ [])
 one_more found e = pushed marks_in found e
 
 module _ (texts : List (List ℕ)) where
-  called : (function : List ℕ) (at : ℕ) (args : List Expr) (e : Expr) → IsCall texts function at args e → flat_map marks_in args ≡ marks_in e
+  pub called : (function : List ℕ) (at : ℕ) (args : List Expr) (e : Expr) → IsCall texts function at args e → flat_map marks_in args ≡ marks_in e
   called function at args e c = sym (ap marks_in c.2 ∙ marks-Call (record { at = at; id = c.0 }) args)
 
   mutual
@@ -283,49 +283,49 @@ module _ (texts : List (List ℕ)) where
 
 -- ---- dependencies
 
-dependency : (n : ℕ) (ts us : List Token) (x : Expr × ℕ) → IsDependency n ts x us → Takes n ts (marks_in x.0) x.1 us
+pub dependency : (n : ℕ) (ts us : List Token) (x : Expr × ℕ) → IsDependency n ts x us → Takes n ts (marks_in x.0) x.1 us
 dependency n ts us x (computations.read {e = e} p) = same_marks (sym (ap marks_in p.rest.rest.rest.same)) (read_passed.none ts e us p n)
 dependency n ts us x (computations.including {e = e} p) = including n ts us e p
 dependency n ts us x (computations.constituents {k = k} p) = constituents n ts us k p
 
-more_dependencies : (ts us vs : List Token) (n : ℕ) (found all : List Expr × ℕ) → AreMoreDependencies found us all vs → Takes n ts (flat_map marks_in found.0) found.1 us → Takes n ts (flat_map marks_in all.0) all.1 vs
+pub more_dependencies : (ts us vs : List Token) (n : ℕ) (found all : List Expr × ℕ) → AreMoreDependencies found us all vs → Takes n ts (flat_map marks_in found.0) found.1 us → Takes n ts (flat_map marks_in all.0) all.1 vs
 more_dependencies ts us vs n found all computations.last h = h
 more_dependencies ts us ws n found all (computations.further {e = e} {us = bs} {vs = vs} {t = t} c p q) h =
     more_dependencies ts vs ws n (found.0 ++ e.0 ∷ [], e.1) all q (same_marks (one_more found.0 e.0) (goes_on h (goes_on (seen us t bs c found.1) (dependency found.1 bs vs e p))))
 
-some_dependencies : (n : ℕ) (ts us : List Token) (all : List Expr × ℕ) → AreSomeDependencies n ts all us → Takes n ts (flat_map marks_in all.0) all.1 us
+pub some_dependencies : (n : ℕ) (ts us : List Token) (all : List Expr × ℕ) → AreSomeDependencies n ts all us → Takes n ts (flat_map marks_in all.0) all.1 us
 some_dependencies n ts us all p = more_dependencies ts p.between us n (p.value.0 ∷ [], p.value.1) all p.rest (same_marks (one_more [] p.value.0) (dependency n ts p.between p.value p.first))
 
-dependencies : (n : ℕ) (ts us : List Token) (all : List Expr × ℕ) → AreDependencies n ts all us → Takes n ts (flat_map marks_in all.0) all.1 us
+pub dependencies : (n : ℕ) (ts us : List Token) (all : List Expr × ℕ) → AreDependencies n ts all us → Takes n ts (flat_map marks_in all.0) all.1 us
 dependencies n ts us all (computations.single {e = e} p) = same_marks (one_more [] e.0) (dependency n ts us e p)
 dependencies n ts us all (computations.several p) =
     let found = p.rest.value in
     at_done (λ z ws. Takes n ts (flat_map marks_in z.0) z.1 ws) p.rest.rest.rest
     (goes_on (seen ts p.value p.between p.first n) (same_marks (nil (flat_map marks_in found.0)) (goes_on (some_dependencies n p.between p.rest.between found p.rest.first) (seen p.rest.between p.rest.rest.value p.rest.rest.between p.rest.rest.first found.1))))
 
-after : (n : ℕ) (ts us : List Token) (all : List Expr × ℕ) → AreAfter n ts all us → Takes n ts (flat_map marks_in all.0) all.1 us
+pub after : (n : ℕ) (ts us : List Token) (all : List Expr × ℕ) → AreAfter n ts all us → Takes n ts (flat_map marks_in all.0) all.1 us
 after n ts us all (absent e) = subst (λ (z : List Expr × ℕ). Takes n ts (flat_map marks_in z.0) z.1 ts) (sym e) nothing_left
 after n ts us all (present p) = goes_on (seen ts p.value p.between p.first n) (dependencies n p.between us all p.rest)
 
 -- ---- computations
 
 -- a target begins with a token, has no condition and takes no number
-record IsBegun (ts : List Token) (x : ℕ × Target) (us : List Token) : Type 0 where
-  first : Token
-  rest : List Token
-  parts : ts ≡ first ∷ rest
-  place : x.0 ≡ first.from
-  no_condition : conditions x.1 ≡ []
-  none : (n : ℕ) → Takes n rest [] n us
+pub record IsBegun (ts : List Token) (x : ℕ × Target) (us : List Token) : Type 0 where
+  pub first : Token
+  pub rest : List Token
+  pub parts : ts ≡ first ∷ rest
+  pub place : x.0 ≡ first.from
+  pub no_condition : conditions x.1 ≡ []
+  pub none : (n : ℕ) → Takes n rest [] n us
 
-place_begun : (words : Keyword → Option Place) (ts us : List Token) (q : ℕ × Place) → IsPlace words ts q us → (t : Token) × (rest : List Token) × (ts ≡ t ∷ rest) × (q.0 ≡ t.from) × ((n : ℕ) → Takes n rest [] n us)
+pub place_begun : (words : Keyword → Option Place) (ts us : List Token) (q : ℕ × Place) → IsPlace words ts q us → (t : Token) × (rest : List Token) × (ts ≡ t ∷ rest) × (q.0 ≡ t.from) × ((n : ℕ) → Takes n rest [] n us)
 place_begun words ts us q (by_word (context {t = t} {us = vs} e d)) = (t, vs, refl, refl, λ n. nothing_left)
 place_begun words ts us q (named p) = go ts p.between p.value p.first p.rest
   where
     go : (ts ms : List Token) (m : Name) → IsName ts m ms → Then IsIndex (λ i. Done (m.at, place.Named m i)) ms q us → (t : Token) × (rest : List Token) × (ts ≡ t ∷ rest) × (q.0 ≡ t.from) × ((n : ℕ) → Takes n rest [] n us)
     go ts ms m (word {t = t} {us = vs} e) r = (t, vs, refl, ap (λ (z : ℕ × Place). z.0) r.rest.same, λ n. (then_passed index_passed (λ i. done_passed)).none ms q us r n)
 
-target_begun : (ts us : List Token) (x : ℕ × Target) → IsTarget ts x us → IsBegun ts x us
+pub target_begun : (ts us : List Token) (x : ℕ × Target) → IsTarget ts x us → IsBegun ts x us
 target_begun ts us x (computations.attribute p) = let (t, rest, parts, at, none) = place_begun in_targets ts p.between p.value p.first in record {
   first = t;
   rest = rest;
@@ -347,7 +347,7 @@ target_begun ts us x (computations.chain_start p) = go ts p.between p.value p.fi
     }
 
 module _ (texts : List (List ℕ)) (n : ℕ) where
-  computation : (ts us : List Token) (x : Comp × ℕ) → IsComputation texts n ts x us → Takes n ts (marks_of x.0) x.1 us
+  pub computation : (ts us : List Token) (x : Comp × ℕ) → IsComputation texts n ts x us → Takes n ts (marks_of x.0) x.1 us
   computation ts us x (computations.assignment p) =
       let b = target_begun ts p.between p.value p.first in
       let v = p.rest.rest.value in
@@ -370,62 +370,62 @@ module _ (texts : List (List ℕ)) (n : ℕ) where
           at_done (λ (z : Comp × ℕ) ws. Takes n (t ∷ ms) (marks_of z.0) z.1 ws) r.rest.rest.rest.rest
           (takes (goes_on (seen ms r.value r.between r.first (n + 1)) (goes_on value (goes_on (seen r.rest.between r.rest.rest.value r.rest.rest.between r.rest.rest.first v.1.number) behind))))
 
-a_severity : {words : MessageWords} (ts : List Token) (x : _) (us : List Token) → IsSeverity words ts x us → (n : ℕ) → Takes n ts [] n us
+pub a_severity : {words : MessageWords} (ts : List Token) (x : _) (us : List Token) → IsSeverity words ts x us → (n : ℕ) → Takes n ts [] n us
 a_severity ts x us (severity_word e d) n = passes nothing_left
 
-placing_passed : (words : MessageWords) → IsPassed (IsPlacing words)
+pub placing_passed : (words : MessageWords) → IsPassed (IsPlacing words)
 placing_passed words = then_passed sees_passed (λ a. then_passed sees_passed (λ b. then_passed sees_passed (λ c. then_passed sees_passed (λ d. sees_passed))))
 
 -- ---- declarations, right sides and heads
 
-a_terminal_type : (ts : List Token) (x : _) (us : List Token) → IsTerminalType ts x us → (n : ℕ) → Takes n ts [] n us
+pub a_terminal_type : (ts : List Token) (x : _) (us : List Token) → IsTerminalType ts x us → (n : ℕ) → Takes n ts [] n us
 a_terminal_type ts x us (items.terminal_type p d) n = a_type ts x us p n
 
-a_side : (ts : List Token) (x : _) (us : List Token) → IsSide ts x us → (n : ℕ) → Takes n ts [] n us
+pub a_side : (ts : List Token) (x : _) (us : List Token) → IsSide ts x us → (n : ℕ) → Takes n ts [] n us
 a_side ts x us items.unsaid n = nothing_left
 a_side ts x us (items.synt {word = w} p) n = seen ts w us p n
 a_side ts x us (items.inh {word = w} p) n = seen ts w us p n
 
-names_passed : IsPassed AreNames
+pub names_passed : IsPassed AreNames
 names_passed = separated_passed name_passed
 
-decl_passed : IsPassed IsDecl
+pub decl_passed : IsPassed IsDecl
 decl_passed = then_passed names_passed (λ a. then_passed sees_passed (λ b. then_passed type_passed (λ c. then_passed (record { none = a_side }) (λ d. done_passed))))
 
-decls_passed : IsPassed AreDecls
+pub decls_passed : IsPassed AreDecls
 decls_passed = then_passed decl_passed (λ a. repeats_passed (λ f. then_passed sees_passed (λ b. then_passed decl_passed (λ c. done_passed))))
 
-attr_passed : IsPassed IsAttr
+pub attr_passed : IsPassed IsAttr
 attr_passed = then_passed sees_passed (λ a. then_passed decls_passed (λ b. then_passed sees_passed (λ c. done_passed)))
 
-term_passed : IsPassed IsTerm
+pub term_passed : IsPassed IsTerm
 term_passed = then_passed sees_passed (λ a. then_passed names_passed (λ b. then_passed sees_passed (λ c. then_passed (record { none = a_terminal_type }) (λ d. then_passed sees_passed (λ e. done_passed)))))
 
-chain_passed : IsPassed IsChain
+pub chain_passed : IsPassed IsChain
 chain_passed = then_passed sees_passed (λ a. then_passed names_passed (λ b. then_passed sees_passed (λ c. then_passed type_passed (λ d. then_passed sees_passed (λ e. done_passed)))))
 
-an_element : (ts : List Token) (x : _) (us : List Token) → IsElement ts x us → (n : ℕ) → Takes n ts [] n us
+pub an_element : (ts : List Token) (x : _) (us : List Token) → IsElement ts x us → (n : ℕ) → Takes n ts [] n us
 an_element ts x us (items.symbol {name = a} p) n = a_name ts a us p n
 an_element ts x us (items.literal {quoted = t} p) n = seen ts t us p n
 
-a_right : (ts : List Token) (x : _) (us : List Token) → IsRight ts x us → (n : ℕ) → Takes n ts [] n us
+pub a_right : (ts : List Token) (x : _) (us : List Token) → IsRight ts x us → (n : ℕ) → Takes n ts [] n us
 a_right ts x us (items.production p) n = (then_passed sees_passed (λ a. then_passed (repeats_passed (λ f. then_passed (record { none = an_element }) (λ b. done_passed))) (λ c. done_passed))).none ts x us p n
 a_right ts x us (items.listof p) n = (then_passed sees_passed (λ a. then_passed (then_passed name_passed (λ b. repeats_passed (λ f. then_passed sees_passed (λ c. then_passed name_passed (λ d. done_passed))))) (λ e. done_passed))).none ts x us p n
 
-right_passed : IsPassed IsRight
+pub right_passed : IsPassed IsRight
 right_passed = record { none = a_right }
 
-a_head : (ts : List Token) (x : _) (us : List Token) → IsSymbolHead ts x us → (n : ℕ) → Takes n ts [] n us
+pub a_head : (ts : List Token) (x : _) (us : List Token) → IsSymbolHead ts x us → (n : ℕ) → Takes n ts [] n us
 a_head ts x us (items.class p) n = (then_passed sees_passed (λ a. then_passed sees_passed (λ b. done_passed))).none ts x us p n
 a_head ts x us (items.plain p) n = (then_passed sees_passed (λ a. done_passed)).none ts x us p n
 
-head_passed : IsPassed IsSymbolHead
+pub head_passed : IsPassed IsSymbolHead
 head_passed = record { none = a_head }
 
-inherited_passed : IsPassed AreInherited
+pub inherited_passed : IsPassed AreInherited
 inherited_passed = optional_passed (then_passed sees_passed (λ a. names_passed))
 
-rule_name_passed : (called : ℕ → StrId) (k at : ℕ) → IsPassed (IsRuleName called k at)
+pub rule_name_passed : (called : ℕ → StrId) (k at : ℕ) → IsPassed (IsRuleName called k at)
 rule_name_passed called k at = optional_passed (then_passed name_passed (λ a. done_passed))
 
 -- ---- numbers that are told apart
@@ -435,57 +435,57 @@ Every P [] = Unit {0}
 Every P (x ∷ xs) = P x × Every P xs
 
 -- each two of the list, the one in front of the other
-abbrev Apart : {X : Type 0} → (X → X → Type 0) → List X → Type 0
+abbrev pub Apart : {X : Type 0} → (X → X → Type 0) → List X → Type 0
 Apart R [] = Unit {0}
 Apart R (x ∷ xs) = Every (R x) xs × Apart R xs
 
 -- the first stands in front, and has the smaller number where both have one
-record IsBefore (x y : Mark) : Type 0 where
-  place : x.1 < y.1
-  number : (i j : ℕ) → x.0 ≡ Some i → y.0 ≡ Some j → i < j
+pub record IsBefore (x y : Mark) : Type 0 where
+  pub place : x.1 < y.1
+  pub number : (i j : ℕ) → x.0 ≡ Some i → y.0 ≡ Some j → i < j
 
-abbrev AreTold : Mark → Mark → Type 0
+abbrev pub AreTold : Mark → Mark → Type 0
 AreTold x y = IsBefore x y ⊎ IsBefore y x
 
-abbrev InOrder : List Token → Type 0
+abbrev pub InOrder : List Token → Type 0
 InOrder [] = Unit {0}
 InOrder (t ∷ ts) = Every (IsEarlier t) ts × InOrder ts
 
-every : {X : Type 0} (P Q : X → Type 0) (xs : List X) → ((x : X) → P x → Q x) → Every P xs → Every Q xs
+pub every : {X : Type 0} (P Q : X → Type 0) (xs : List X) → ((x : X) → P x → Q x) → Every P xs → Every Q xs
 every P Q [] f h = tt
 every P Q (x ∷ xs) f h = (f x h.0, every P Q xs f h.1)
 
-every_insert : {X : Type 0} (P : X → Type 0) (xs ys : List X) (x : X) → P x → Every P (xs ++ ys) → Every P ((xs ++ x ∷ []) ++ ys)
+pub every_insert : {X : Type 0} (P : X → Type 0) (xs ys : List X) (x : X) → P x → Every P (xs ++ ys) → Every P ((xs ++ x ∷ []) ++ ys)
 every_insert P [] ys x p h = (p, h)
 every_insert P (y ∷ xs) ys x p h = (h.0, every_insert P xs ys x p h.1)
 
-turned : (x y : Mark) → AreTold x y → AreTold y x
+pub turned : (x y : Mark) → AreTold x y → AreTold y x
 turned x y (inl p) = inr p
 turned x y (inr p) = inl p
 
-apart_insert : (xs ys : List Mark) (x : Mark) → Every (λ o. AreTold o x) (xs ++ ys) → Apart AreTold (xs ++ ys) → Apart AreTold ((xs ++ x ∷ []) ++ ys)
+pub apart_insert : (xs ys : List Mark) (x : Mark) → Every (λ o. AreTold o x) (xs ++ ys) → Apart AreTold (xs ++ ys) → Apart AreTold ((xs ++ x ∷ []) ++ ys)
 apart_insert [] ys x h a = (every (λ o. AreTold o x) (AreTold x) ys (λ o p. turned o x p) h, a)
 apart_insert (y ∷ xs) ys x h a = (every_insert (AreTold y) xs ys x h.0 a.0, apart_insert xs ys x h.1 a.1)
 
 -- what stands in front of what is left, its number taken already if it has one
-record IsBelow (n : ℕ) (ts : List Token) (x : Mark) : Type 0 where
-  number : (i : ℕ) → x.0 ≡ Some i → i < n
-  place : Every (λ (t : Token). x.1 < t.from) ts
+pub record IsBelow (n : ℕ) (ts : List Token) (x : Mark) : Type 0 where
+  pub number : (i : ℕ) → x.0 ≡ Some i → i < n
+  pub place : Every (λ (t : Token). x.1 < t.from) ts
 
 -- Rules and symbols have these so far, which are told apart, and what is left begins behind them all.
-record Holds (xs ys : List Mark) (n : ℕ) (ts : List Token) : Type 0 where
-  apart : Apart AreTold (xs ++ ys)
-  below : Every (IsBelow n ts) (xs ++ ys)
-  ordered : InOrder ts
+pub record Holds (xs ys : List Mark) (n : ℕ) (ts : List Token) : Type 0 where
+  pub apart : Apart AreTold (xs ++ ys)
+  pub below : Every (IsBelow n ts) (xs ++ ys)
+  pub ordered : InOrder ts
 
-next_is : (n i : ℕ) → Some n ≡ Some i → n ≡ i
+pub next_is : (n i : ℕ) → Some n ≡ Some i → n ≡ i
 next_is n i e = same_Some n i e
 
-no_number : (i : ℕ) → {A : Type 0} → ◌≡◌ {A = Option ℕ} None (Some i) → A
+pub no_number : (i : ℕ) → {A : Type 0} → ◌≡◌ {A = Option ℕ} None (Some i) → A
 no_number i e = absurd (none-some i e)
 
 -- one more mark stands in front of what is left
-one_mark : {n m : ℕ} {t : Token} {ts : List Token} (x : Mark) (xs ys : List Mark) → n ≤ m → x.1 ≡ t.from → ((i j : ℕ) → x.0 ≡ Some j → i < n → i < j) → ((j : ℕ) → x.0 ≡ Some j → j < m)
+pub one_mark : {n m : ℕ} {t : Token} {ts : List Token} (x : Mark) (xs ys : List Mark) → n ≤ m → x.1 ≡ t.from → ((i j : ℕ) → x.0 ≡ Some j → i < n → i < j) → ((j : ℕ) → x.0 ≡ Some j → j < m)
     → Holds xs ys n (t ∷ ts) → Holds (xs ++ x ∷ []) ys m ts
 one_mark {n} {m} {t} {ts} x xs ys more here above below h = record {
   apart = apart_insert xs ys x (every (IsBelow n (t ∷ ts)) (λ o. AreTold o x) (xs ++ ys) (λ o b. inl (record { place = subst (λ (k : ℕ). o.1 < k) (sym here) b.place.0; number = λ i j e d. above i j d (b.number i e) })) h.below) h.apart;
@@ -494,7 +494,7 @@ one_mark {n} {m} {t} {ts} x xs ys more here above below h = record {
   ordered = h.ordered.1;
 }
 
-grows : {n m : ℕ} {ts us : List Token} {zs : List Mark} → Takes n ts zs m us → (xs ys : List Mark) → Holds xs ys n ts → Holds (xs ++ zs) ys m us
+pub grows : {n m : ℕ} {ts us : List Token} {zs : List Mark} → Takes n ts zs m us → (xs ys : List Mark) → Holds xs ys n ts → Holds (xs ++ zs) ys m us
 grows {n} {m} {ts} {us} nothing_left xs ys h = subst (λ z. Holds z ys n ts) (sym (nil xs)) h
 grows {n} {m} (passes {t = t} {ts = ts} p) xs ys h = grows p xs ys (record {
   apart = h.apart;
@@ -506,21 +506,21 @@ grows {n} {m} {us = us} (takes {t = t} {ts = ts} {xs = zs} p) xs ys h = subst (�
 grows {n} {m} {us = us} (notes {t = t} {ts = ts} {xs = zs} p) xs ys h = subst (λ z. Holds z ys m us) (append_assoc xs ((None, t.from) ∷ []) zs) (grows p (xs ++ (None, t.from) ∷ []) ys
     (one_mark (None, t.from) xs ys (omega arith) refl (λ i j e less. no_number j e) (λ j e. no_number j e) h))
 
-grows_none : {n m : ℕ} {ts us : List Token} {xs ys : List Mark} → Takes n ts [] m us → Holds xs ys n ts → Holds xs ys m us
+pub grows_none : {n m : ℕ} {ts us : List Token} {xs ys : List Mark} → Takes n ts [] m us → Holds xs ys n ts → Holds xs ys m us
 grows_none {n} {m} {ts} {us} {xs} {ys} p h = subst (λ z. Holds z ys m us) (nil xs) (grows p xs ys h)
 
 -- a symbol's numbers stand behind all others
-behind_all : {n m : ℕ} {ts us : List Token} {zs all : List Mark} (xs ys : List Mark) → ys ++ zs ≡ all → Takes n ts zs m us → Holds xs ys n ts → Holds xs all m us
+pub behind_all : {n m : ℕ} {ts us : List Token} {zs all : List Mark} (xs ys : List Mark) → ys ++ zs ≡ all → Takes n ts zs m us → Holds xs ys n ts → Holds xs all m us
 behind_all {n} {m} {ts} {us} {zs} {all} xs ys e p h =
     let joined : Holds (xs ++ ys) [] n ts = record { apart = subst (Apart AreTold) (sym (nil (xs ++ ys))) h.apart; below = subst (Every (IsBelow n ts)) (sym (nil (xs ++ ys))) h.below; ordered = h.ordered } in
     let grown = grows p (xs ++ ys) [] joined in
     let same : ((xs ++ ys) ++ zs) ++ [] ≡ xs ++ all = nil ((xs ++ ys) ++ zs) ∙ append_assoc xs ys zs ∙ ap (λ z. xs ++ z) e in
     record { apart = subst (Apart AreTold) same grown.apart; below = subst (Every (IsBelow m us)) same grown.below; ordered = grown.ordered }
 
-abbrev rule_marks : List RuleItem → List Mark
+abbrev pub rule_marks : List RuleItem → List Mark
 rule_marks rules = flat_map (λ (r : RuleItem). flat_map marks_of r.body) rules
 
-abbrev symbol_marks : List SymbolItem → List Mark
+abbrev pub symbol_marks : List SymbolItem → List Mark
 symbol_marks symbols = flat_map (λ (s : SymbolItem). flat_map marks_of s.body) symbols
 
 -- by places in the list, and without them
@@ -528,21 +528,21 @@ pub every_of : {X : Type 0} (P : X → Type 0) (xs : List X) → ((i : ℕ) (d :
 every_of P [] h = tt
 every_of P (x ∷ xs) h = (h 0 x (omega arith), every_of P xs (λ i d less. h (suc i) d (omega (arith, less))))
 
-in_order : (ts : List Token) → AllPairs IsEarlier ts → InOrder ts
+pub in_order : (ts : List Token) → AllPairs IsEarlier ts → InOrder ts
 in_order [] h = tt
 in_order (t ∷ ts) h = (every_of (IsEarlier t) ts (λ i d less. h 0 (suc i) d (omega arith) (omega (arith, less))), in_order ts (λ i j d less within. h (suc i) (suc j) d (omega (arith, less)) (omega (arith, within))))
 
-all_of : {X : Type 0} (P : X → Type 0) (xs : List X) → Every P xs → All P xs
+pub all_of : {X : Type 0} (P : X → Type 0) (xs : List X) → Every P xs → All P xs
 all_of P [] h i d less = absurd (omega (arith, less))
 all_of P (x ∷ xs) h zero d less = h.0
 all_of P (x ∷ xs) h (suc i) d less = all_of P xs h.1 i d (omega (arith, less))
 
-all_pairs : {X : Type 0} (R : X → X → Type 0) (xs : List X) → Apart R xs → AllPairs R xs
+pub all_pairs : {X : Type 0} (R : X → X → Type 0) (xs : List X) → Apart R xs → AllPairs R xs
 all_pairs R [] h = λ i j d less within. absurd (omega (arith, within))
 all_pairs R (x ∷ xs) h = AllPairs-cons R x xs (all_of (R x) xs h.0) (all_pairs R xs h.1)
 
 module _ (words : MessageWords) (texts : List (List ℕ)) where
-  message_of : (s : Counts) (ts us : List Token) (x : (Severity × Expr) × Counts) → IsMessageOf words texts s ts x us → Takes s.number ts (marks_in x.0.1) x.1.number us
+  pub message_of : (s : Counts) (ts us : List Token) (x : (Severity × Expr) × Counts) → IsMessageOf words texts s ts x us → Takes s.number ts (marks_in x.0.1) x.1.number us
   message_of s ts us x p =
       let q = p.rest.rest.rest in
       let text = expression texts 0 s p.rest.rest.between q.between q.value q.first in
@@ -550,7 +550,7 @@ module _ (words : MessageWords) (texts : List (List ℕ)) where
       (goes_on (seen ts p.value p.between p.first s.number) (goes_on (a_severity p.between p.rest.value p.rest.between p.rest.first s.number) (goes_on (seen p.rest.between p.rest.rest.value p.rest.rest.between p.rest.rest.first s.number)
       (same_marks (nil (marks_in q.value.0)) (goes_on text ((placing_passed words).none q.between q.rest.value q.rest.between q.rest.first q.value.1.number))))))
 
-  rule_computation : (n : ℕ) (ts us : List Token) (x : Comp × ℕ) → IsRuleComputation words texts n ts x us → Takes n ts (marks_of x.0) x.1 us
+  pub rule_computation : (n : ℕ) (ts us : List Token) (x : Comp × ℕ) → IsRuleComputation words texts n ts x us → Takes n ts (marks_of x.0) x.1 us
   rule_computation n ts us x (messages.usual p) = computation texts n ts us x p
   rule_computation n ts us x (messages.message p) = go ts p.between p.value p.first p.rest
     where
@@ -571,7 +571,7 @@ module _ (words : MessageWords) (texts : List (List ℕ)) where
           (takes (goes_on (seen ms r.value r.between r.first (n + 1)) (goes_on condition (goes_on (seen c.between c.rest.value c.rest.between c.rest.first c.value.1.number)
           (goes_on (seen c.rest.between c.rest.rest.value c.rest.rest.between c.rest.rest.first c.value.1.number) (goes_on message (goes_on (seen m.between m.rest.value m.rest.between m.rest.first m.value.1.number) behind)))))))
 
-  computation_in : (o : Owner) (n : ℕ) (ts us : List Token) (x : Comp × ℕ) → IsComputationIn words texts o n ts x us → Takes n ts (marks_of x.0) x.1 us
+  pub computation_in : (o : Owner) (n : ℕ) (ts us : List Token) (x : Comp × ℕ) → IsComputationIn words texts o n ts x us → Takes n ts (marks_of x.0) x.1 us
   computation_in owner.Rule n ts us x p = rule_computation n ts us x p
   computation_in owner.Symbol n ts us x p = computation texts n ts us x p.usual
 
@@ -580,13 +580,13 @@ module _ (words : MessageWords) (texts : List (List ℕ)) where
   abbrev One : Owner → ℕ → List Token → Comp × ℕ → List Token → Type 0
   One = IsComputationIn words texts
 
-  steps : (o : Owner) (ts us vs : List Token) (n : ℕ) (y z : List Comp × ℕ) → Repeats (IsFurtherComputation (One o)) y us z vs → Takes n ts (flat_map marks_of y.0) y.1 us → Takes n ts (flat_map marks_of z.0) z.1 vs
+  pub steps : (o : Owner) (ts us vs : List Token) (n : ℕ) (y z : List Comp × ℕ) → Repeats (IsFurtherComputation (One o)) y us z vs → Takes n ts (flat_map marks_of y.0) y.1 us → Takes n ts (flat_map marks_of z.0) z.1 vs
   steps o ts us vs n y z items.end h = h
   steps o ts us ws n y z (items.next {more = m} {us = vs} p q) h =
       steps o ts vs ws n m z q (at_done (λ (k : List Comp × ℕ) bs. Takes n ts (flat_map marks_of k.0) k.1 bs) p.rest.rest
       (same_marks (nil _ ∙ pushed marks_of y.0 p.value.0) (goes_on (goes_on h (computation_in o y.1 us p.between p.value p.first)) (seen p.between p.rest.value p.rest.between p.rest.first p.value.1))))
 
-  body : (o : Owner) (n : ℕ) (ts us : List Token) (all : List Comp × ℕ) → IsBody (One o) n ts all us → Takes n ts (flat_map marks_of all.0) all.1 us
+  pub body : (o : Owner) (n : ℕ) (ts us : List Token) (all : List Comp × ℕ) → IsBody (One o) n ts all us → Takes n ts (flat_map marks_of all.0) all.1 us
   body o n ts us all p =
       at_done (λ (k : List Comp × ℕ) bs. Takes n ts (flat_map marks_of k.0) k.1 bs) p.rest.rest.rest
       (same_marks (nil (flat_map marks_of p.value.0)) (goes_on (computed ts p.between p.value p.first) (goes_on (seen p.between p.rest.value p.rest.between p.rest.first p.value.1) (seen p.rest.between p.rest.rest.value p.rest.rest.between p.rest.rest.first p.value.1))))
@@ -643,89 +643,89 @@ module _ (words : MessageWords) (texts : List (List ℕ)) where
 
 -- ---- the numbers and the places among what is taken
 
-through : {A B C : Type 0} (f : B → List C) (g : A → List B) (h : A → List C) → ((a : A) → flat_map f (g a) ≡ h a) → (xs : List A) → flat_map f (flat_map g xs) ≡ flat_map h xs
+pub through : {A B C : Type 0} (f : B → List C) (g : A → List B) (h : A → List C) → ((a : A) → flat_map f (g a) ≡ h a) → (xs : List A) → flat_map f (flat_map g xs) ≡ flat_map h xs
 through f g h each [] = refl
 through f g h each (x ∷ xs) = flat_map-append f (g x) (flat_map g xs) ∙ (λ j. each x j ++ through f g h each xs j)
 
-abbrev all_marks : Spec → List Mark
+abbrev pub all_marks : Spec → List Mark
 all_marks spec = rule_marks spec.rules ++ symbol_marks spec.symbols
 
-number_of_mark : Mark → List Numbered
+pub number_of_mark : Mark → List Numbered
 number_of_mark (Some n, at) = (n, at) ∷ []
 number_of_mark (None, at) = []
 
-number_is : (e : Expr) → flat_map number_of_mark (mark_of_part e) ≡ number_of_part e
+pub number_is : (e : Expr) → flat_map number_of_mark (mark_of_part e) ≡ number_of_part e
 unfolding number_of_mark
 number_is (expr.Constituents k) = refl
 number_is (expr.Including at pairs) = refl
 number_is e = refl
 
-numbers_are : (c : Comp) → flat_map number_of_mark (marks_of c) ≡ numbers_of c
+pub numbers_are : (c : Comp) → flat_map number_of_mark (marks_of c) ≡ numbers_of c
 unfolding number_of_mark
 numbers_are c = ap (λ l. (c.number, c.at) ∷ l) (through number_of_mark marks_in numbers_in (λ e. through number_of_mark mark_of_part number_of_part number_is (parts e)) (expressions_of c))
 
-all_numbers_are : (spec : Spec) → flat_map number_of_mark (all_marks spec) ≡ all_numbers spec
+pub all_numbers_are : (spec : Spec) → flat_map number_of_mark (all_marks spec) ≡ all_numbers spec
 all_numbers_are spec =
     flat_map-append number_of_mark (rule_marks spec.rules) (symbol_marks spec.symbols)
     ∙ (λ j. through number_of_mark (λ (r : RuleItem). flat_map marks_of r.body) (λ (r : RuleItem). flat_map numbers_of r.body) (λ r. through number_of_mark marks_of numbers_of numbers_are r.body) spec.rules j
     ++ through number_of_mark (λ (s : SymbolItem). flat_map marks_of s.body) (λ (s : SymbolItem). flat_map numbers_of s.body) (λ s. through number_of_mark marks_of numbers_of numbers_are s.body) spec.symbols j)
 
-place_of_mark : Mark → List ℕ
+pub place_of_mark : Mark → List ℕ
 place_of_mark (Some n, at) = []
 place_of_mark (None, at) = at ∷ []
 
-place_is : (e : Expr) → flat_map place_of_mark (mark_of_part e) ≡ including_of_part e
+pub place_is : (e : Expr) → flat_map place_of_mark (mark_of_part e) ≡ including_of_part e
 unfolding place_of_mark
 place_is (expr.Constituents k) = refl
 place_is (expr.Including at pairs) = refl
 place_is e = refl
 
-places_are : (c : Comp) → flat_map place_of_mark (marks_of c) ≡ includings_of c
+pub places_are : (c : Comp) → flat_map place_of_mark (marks_of c) ≡ includings_of c
 unfolding place_of_mark
 places_are c = through place_of_mark marks_in includings_in (λ e. through place_of_mark mark_of_part including_of_part place_is (parts e)) (expressions_of c)
 
-all_places_are : (spec : Spec) → flat_map place_of_mark (all_marks spec) ≡ all_includings spec
+pub all_places_are : (spec : Spec) → flat_map place_of_mark (all_marks spec) ≡ all_includings spec
 all_places_are spec =
     flat_map-append place_of_mark (rule_marks spec.rules) (symbol_marks spec.symbols)
     ∙ (λ j. through place_of_mark (λ (r : RuleItem). flat_map marks_of r.body) (λ (r : RuleItem). flat_map includings_of r.body) (λ r. through place_of_mark marks_of includings_of places_are r.body) spec.rules j
     ++ through place_of_mark (λ (s : SymbolItem). flat_map marks_of s.body) (λ (s : SymbolItem). flat_map includings_of s.body) (λ s. through place_of_mark marks_of includings_of places_are s.body) spec.symbols j)
 
-every_number : (P : Mark → Type 0) (Q : Numbered → Type 0) → ((n at : ℕ) → P (Some n, at) → Q (n, at)) → (xs : List Mark) → Every P xs → Every Q (flat_map number_of_mark xs)
+pub every_number : (P : Mark → Type 0) (Q : Numbered → Type 0) → ((n at : ℕ) → P (Some n, at) → Q (n, at)) → (xs : List Mark) → Every P xs → Every Q (flat_map number_of_mark xs)
 unfolding number_of_mark
 every_number P Q on [] h = tt
 every_number P Q on ((Some n, at) ∷ xs) h = (on n at h.0, every_number P Q on xs h.1)
 every_number P Q on ((None, at) ∷ xs) h = every_number P Q on xs h.1
 
-told_numbers : (n at m other : ℕ) → AreTold (Some n, at) (Some m, other) → AreApart (n, at) (m, other)
+pub told_numbers : (n at m other : ℕ) → AreTold (Some n, at) (Some m, other) → AreApart (n, at) (m, other)
 told_numbers n at m other (inl p) = inl (record { smaller = p.number n m refl refl; earlier = p.place })
 told_numbers n at m other (inr p) = inr (record { smaller = p.number m n refl refl; earlier = p.place })
 
-numbers_apart : (xs : List Mark) → Apart AreTold xs → Apart AreApart (flat_map number_of_mark xs)
+pub numbers_apart : (xs : List Mark) → Apart AreTold xs → Apart AreApart (flat_map number_of_mark xs)
 unfolding number_of_mark
 numbers_apart [] h = tt
 numbers_apart ((Some n, at) ∷ xs) h = (every_number (AreTold (Some n, at)) (AreApart (n, at)) (told_numbers n at) xs h.0, numbers_apart xs h.1)
 numbers_apart ((None, at) ∷ xs) h = numbers_apart xs h.1
 
-abbrev Differ : ℕ → ℕ → Type 0
+abbrev pub Differ : ℕ → ℕ → Type 0
 Differ x y = x ≡ y → ⊥
 
-every_place : (P : Mark → Type 0) (Q : ℕ → Type 0) → ((at : ℕ) → P (None, at) → Q at) → (xs : List Mark) → Every P xs → Every Q (flat_map place_of_mark xs)
+pub every_place : (P : Mark → Type 0) (Q : ℕ → Type 0) → ((at : ℕ) → P (None, at) → Q at) → (xs : List Mark) → Every P xs → Every Q (flat_map place_of_mark xs)
 unfolding place_of_mark
 every_place P Q on [] h = tt
 every_place P Q on ((Some n, at) ∷ xs) h = every_place P Q on xs h.1
 every_place P Q on ((None, at) ∷ xs) h = (on at h.0, every_place P Q on xs h.1)
 
-told_places : (at other : ℕ) → AreTold (None, at) (None, other) → Differ at other
+pub told_places : (at other : ℕ) → AreTold (None, at) (None, other) → Differ at other
 told_places at other (inl p) same = omega (arith, p.place, same)
 told_places at other (inr p) same = omega (arith, p.place, same)
 
-places_apart : (xs : List Mark) → Apart AreTold xs → Apart Differ (flat_map place_of_mark xs)
+pub places_apart : (xs : List Mark) → Apart AreTold xs → Apart Differ (flat_map place_of_mark xs)
 unfolding place_of_mark
 places_apart [] h = tt
 places_apart ((Some n, at) ∷ xs) h = places_apart xs h.1
 places_apart ((None, at) ∷ xs) h = (every_place (AreTold (None, at)) (Differ at) (told_places at) xs h.0, places_apart xs h.1)
 
-marks_apart : (texts : List (List ℕ)) (tokens : List Token) (spec : Spec) → AllPairs IsEarlier tokens → IsSpecOf texts tokens spec → Apart AreTold (all_marks spec)
+pub marks_apart : (texts : List (List ℕ)) (tokens : List Token) (spec : Spec) → AllPairs IsEarlier tokens → IsSpecOf texts tokens spec → Apart AreTold (all_marks spec)
 marks_apart texts tokens spec earlier p =
     let whole = all_items (words_in texts) texts (called_in texts) (no_items, 0) p.value tokens p.between p.first (record { apart = tt; below = tt; ordered = in_order tokens earlier }) in
     subst (λ (z : Spec). Apart AreTold (all_marks z)) (sym p.rest.same) whole.apart

@@ -113,7 +113,7 @@ module _ (spec : Spec) (env : Environment) where
           ]
         ]
 
-    module _ (order : AllPairs (λ (x y : Typed1). x.name.at < y.name.at) spec.chains) (none : HasNone (table_faults spec env)) where
+    module _ (none : HasNone (table_faults spec env)) where
       no-clash : (at : ℕ) → ¬ IsKindClash spec env at
       no-clash = at_place-none (λ at. fault.KindClash at) (IsKindClash spec env) none.1.1.1.0
 
@@ -131,17 +131,17 @@ module _ (spec : Spec) (env : Environment) where
           let y = get_or spec.chains j d in
           let first : Contains (chain_names spec) x.name = map-contains (λ (z : Typed1). z.name) spec.chains x (Contains-get_or spec.chains i d (omega (arith, less, within))) in
           let second : Contains (chain_names spec) y.name = map-contains (λ (z : Typed1). z.name) spec.chains y (Contains-get_or spec.chains j d within) in
-          no-clash y.name.at (chain_declared_again (behind_a_chain x.name y.name first (Contains-append_left (chain_names spec) (declared_names spec) y.name second) e (order i j d less within) refl))
+          no-clash y.name.at (chain_declared_again (behind_a_chain x.name y.name first (Contains-append_left (chain_names spec) (declared_names spec) y.name second) e (from.chains_in_order i j d less within) refl))
 
       no-class : (s : ℕ) → IsClass spec s → ¬ IsNonterminal spec s
       no-class s class left =
           let (r, there, e) = contains-map left_of spec.rules s (contains-test s lefts left) in
           no-clash r.left.at (class_in_production r r.left there (contains-here r.left _) (subst (IsClass spec) (sym e) class) refl)
 
-pub are-clear : (spec : Spec) (env : Environment) → IsFromText spec → AllPairs (λ (x y : Typed1). x.name.at < y.name.at) spec.chains → HasNone (table_faults spec env) → AreClear spec
-are-clear spec env from order none = record {
+pub are-clear : (spec : Spec) (env : Environment) → IsFromText spec → HasNone (table_faults spec env) → AreClear spec
+are-clear spec env from none = record {
   computations = tell spec env from;
-  chains = chains-told spec env from order none;
-  classes = no-class spec env from order none;
-  roots = λ s q h g. only-one (roots spec env) s q (one-root spec env from order none) (root-all spec env s h) (root-all spec env q g);
+  chains = chains-told spec env from none;
+  classes = no-class spec env from none;
+  roots = λ s q h g. only-one (roots spec env) s q (one-root spec env from none) (root-all spec env s h) (root-all spec env q g);
 }

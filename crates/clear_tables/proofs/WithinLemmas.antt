@@ -17,6 +17,7 @@ use Rattle.lido_syntax.specs.declared.spec.Spec.{Spec}
 use Rattle.lido_syntax.specs.declared.spec.RuleItem.{RuleItem}
 use Rattle.lido_syntax.specs.declared.fault.SpecFault.TheVariants as fault
 use Rattle.lido_syntax.specs.Production.{right_of}
+use Rattle.lido_symbols.specs.FromText.{IsFromText}
 use Rattle.lido_symbols.specs.Numbers.{different, enumerated}
 use Rattle.table_faults.specs.Faults.{table_faults, plain_count, rules as too_many_rules, elements as too_many_elements}
 use Rattle.rule_tables.specs.declared.table.Tables.{Tables}
@@ -106,9 +107,10 @@ module _ (spec : Spec) (env : Environment) (symbols : List ℕ) where
           omega (arith, plain-right p (place-contains (plain_rules spec symbols) i p there), ap length is.right, length-map rule.right (λ (s : SymId). s.0));
     }
 
-pub are-within : (env later : Environment) (t : Tables) → HasIds env.texts t.spec → Gains env.texts later.texts → length t.spec.chains ≤ 2 ^ 32 → HasNone (table_faults t.spec env) → AreTablesOf later t → AreWithin t
-are-within env later t ids gains few none tables = record {
+pub are-within : (env later : Environment) (t : Tables) → IsFromText t.spec → HasIds env.texts t.spec → Gains env.texts later.texts → HasNone (table_faults t.spec env) → AreTablesOf later t → AreWithin t
+are-within env later t from ids gains none tables = record {
   symbols = few-rows env later t ids gains none tables;
   plain = are-few t.spec env (named_symbols t) none later t.plain tables.plain;
-  chains = few;
+  chains = (let f = from.few_chains in omega (arith, f));
+  includings = (let f = from.few_includings in omega (arith, f));
 }

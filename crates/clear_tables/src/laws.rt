@@ -1,10 +1,8 @@
 //! Laws of specifications without a fault of their tables.
-ghost use Rattle.std.specs.Prelude.{◌<◌, ◌≤◌, ◌^◌, length, AllPairs};
 ghost use Rattle.lido_base.specs.Environment.{Environment};
 ghost use Rattle.lido_base.specs.Faults.{HasNone};
 ghost use Rattle.lido_base.specs.Texts.{Gains};
 ghost use Rattle.lido_syntax.specs.declared.spec.Spec.{Spec as Specification};
-ghost use Rattle.lido_syntax.specs.declared.spec.Typed1.{Typed1 as Declared};
 ghost use Rattle.lido_symbols.specs.FromText.{IsFromText};
 ghost use Rattle.table_faults.specs.Faults.{table_faults};
 ghost use Rattle.rule_tables.specs.declared.table.Tables.{Tables as Rows};
@@ -12,16 +10,15 @@ ghost use Rattle.rule_tables.specs.RuleNames.{HasIds};
 ghost use Rattle.rule_tables.specs.TablesOf.{AreTablesOf};
 ghost use Rattle.need_graphs.specs.Clear.{AreClear, AreWithin};
 
-/// Where a specification that was read from a text declares each chain behind those before it and has no fault of its tables, numbers
-/// tell its computations, names its chains, no class is a nonterminal, and there is one root.
+/// Where a specification that was read from a text has no fault of its tables, numbers tell its computations, names its chains, no class
+/// is a nonterminal, and there is one root.
 pub fn clear_specifications()
-    ensures { (spec : Specification) (env : Environment) → IsFromText spec
-        → AllPairs (λ (x y : Declared). x.name.at < y.name.at) spec.chains → HasNone (table_faults spec env) → AreClear spec }
+    ensures { (spec : Specification) (env : Environment) → IsFromText spec → HasNone (table_faults spec env) → AreClear spec }
 {}
 
-/// Where a specification has no fault of its tables over texts of which its names are ids, and no more than 2^32 chains, its tables
-/// over these texts, and maybe more behind them, keep within the limits.
+/// Where a specification that was read from a text has no fault of its tables over texts of which its names are ids, its tables over
+/// these texts, and maybe more behind them, keep within the limits.
 pub fn tables_within_limits()
-    ensures { (env later : Environment) (t : Rows) → HasIds env.texts t.spec → Gains env.texts later.texts
-        → length t.spec.chains ≤ 2 ^ 32 → HasNone (table_faults t.spec env) → AreTablesOf later t → AreWithin t }
+    ensures { (env later : Environment) (t : Rows) → IsFromText t.spec → HasIds env.texts t.spec → Gains env.texts later.texts
+        → HasNone (table_faults t.spec env) → AreTablesOf later t → AreWithin t }
 {}

@@ -39,7 +39,7 @@ module _ (spec : Spec) (env : Environment) (none : (at : ℕ) → ¬ IsKindClash
     abbrev Said : Kind → Type 0
     Said k = (at : ℕ) × SaysKind spec s a k at
 
-    said-declared : (k : Kind) → IsDeclaredKind spec s a k → Said k
+    pub said-declared : (k : Kind) → IsDeclaredKind spec s a k → Said k
     said-declared k (inl (inl (d, is, e))) = (d.attr.at, declared (inl (d, is, e, refl)))
     said-declared k (inl (inr (class, i, (d, is, e)))) = (d.attr.at, declared (inr (class, i, (d, is, e, refl))))
     said-declared k (inr (d, m, n, e)) = (d.attr.at, by_attr d m n e refl)
@@ -55,7 +55,7 @@ module _ (spec : Spec) (env : Environment) (none : (at : ℕ) → ¬ IsKindClash
     said-told _ (inr (class, h, synt c of (b, m, n, unlike))) = (b.at, by_synt refl (inr (class, h, (c, b, of, m, n, unlike, refl))))
     said-told _ (inr (class, h, inh c of (b, m, n, unlike))) = (b.at, by_inh refl (inr (class, h, (c, b, of, m, n, unlike, refl))))
 
-    both-said : (k l : Kind) → Said k → Said l → k ≡ l
+    pub both-said : (k l : Kind) → Said k → Said l → k ≡ l
     both-said k l (at, h) (other, j) = by (same-kind k l) (cases_lt other at)
       where
         by : (k ≡ l) ⊎ (k ≡ l → ⊥) → (other < at) ⊎ (at ≤ other) → k ≡ l

@@ -65,10 +65,10 @@ use Rattle.flat_laws.proofs.ShareLemmas.{including-share, constituents-share, ch
 
 -- ---- leaves of arguments
 
-part-leaf : (front back : List Expr) (l : Expr) → Contains (filter is_leaf front) l → Contains (filter is_leaf (front ++ back)) l
+pub part-leaf : (front back : List Expr) (l : Expr) → Contains (filter is_leaf front) l → Contains (filter is_leaf (front ++ back)) l
 part-leaf front back l m = let (k, pass) = filtered is_leaf front l m in kept is_leaf (front ++ back) l (Contains-append_left front back l k) pass
 
-leaf-part : (front back : List Expr) (l : Expr) → Contains (filter is_leaf back) l → Contains (filter is_leaf (front ++ back)) l
+pub leaf-part : (front back : List Expr) (l : Expr) → Contains (filter is_leaf back) l → Contains (filter is_leaf (front ++ back)) l
 leaf-part front back l m = let (k, pass) = filtered is_leaf back l m in kept is_leaf (front ++ back) l (Contains-append_right front back l k) pass
 
 -- ---- expressions

@@ -26,7 +26,7 @@ use Rattle.rule_tables.specs.Needs.{Tables, Needs, AreTables}
 use Rattle.rule_tables.specs.PlainRules.{number}
 use Rattle.rule_tables.specs.Slots.{Slot, AreSlots}
 use Rattle.rule_tables.specs.Flat.{IsFlat, IsSymbolType}
-use Rattle.flat_laws.specs.Accepted.{IsAccepted, AreNames, IsOnce}
+use Rattle.flat_laws.specs.Accepted.{IsAccepted, AreNames}
 use Rattle.flat_laws.proofs.Lists.{all-places}
 use Rattle.flat_laws.proofs.RuleLemmas.{IsFlatAt, flat-at}
 use Rattle.flat_laws.proofs.FlatSymbolLemmas.{named-at, nonterminal-at}
@@ -62,20 +62,19 @@ module _ (spec : Spec) (early env : Environment) (T : Tables spec) (tables : Are
         let those = equation-terminals spec early env T tables accepted names needs i at.p at.fs at.of_ruled slots at.is_flat.rule at.is_flat.of_rule k s origin value deps equation in
         all-of (λ k. IsTrue (is_terminal_at symbols flat k)) (terminals_of c.value) (λ n mn. terminal-at n (those n (subst (λ (e : FlatExpr). Contains (terminals_of e) n) given.gives mn)))))
 
-    pub is-rule : IsOnce flat → IsRule symbols flat
-    is-rule once = record {
+    pub is-rule : IsRule symbols flat
+    is-rule = record {
       left_side = left-side spec early env T tables accepted needs slots are symbols flat_rules shapes root is i flat at;
       right_side = right-side spec early env T tables accepted needs slots are symbols flat_rules shapes root is i flat at;
       goals = goals spec early env T tables accepted needs slots are symbols flat_rules shapes root is i flat at;
-      once = once;
+      once = at.is_flat.once;
       dependencies_in_range = dependencies-in_range spec early env T tables accepted needs slots are symbols flat_rules shapes root is i flat at;
       terminals = terminals;
       origins = origins spec early env T tables accepted needs slots are symbols flat_rules shapes root is i flat at;
     }
 
-  pub each-rule : All IsOnce flat_rules → All (IsRule symbols) flat_rules
-  each-rule once = all-places (IsRule symbols) flat_rules (λ i flat e.
-      is-rule i flat (flat-at spec env T tables needs slots symbols flat_rules shapes root is i flat e) (All-contains IsOnce flat_rules flat once (place-contains flat_rules i flat e)))
+  pub each-rule : All (IsRule symbols) flat_rules
+  each-rule = all-places (IsRule symbols) flat_rules (λ i flat e. is-rule i flat (flat-at spec env T tables needs slots symbols flat_rules shapes root is i flat e))
 
   -- ---- shapes
 

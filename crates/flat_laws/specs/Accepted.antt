@@ -1,5 +1,5 @@
 -- What is known of a specification whose flat grammar is made.
-use Rattle.std.specs.Prelude.{◌≡◌, ℕ, ◌<◌, ◌≤◌, ◌^◌, List, length, sum_by, Some, slice_get, All, AllPairs, Contains}
+use Rattle.std.specs.Prelude.{◌≡◌, ℕ, ◌<◌, ◌≤◌, ◌^◌, List, length, sum_by, Some, slice_get, All, Contains}
 use Rattle.lido_base.specs.Environment.{Environment}
 use Rattle.lido_base.specs.Faults.{HasNone}
 use Rattle.lido_base.specs.Texts.{IsDistinctTexts}
@@ -13,7 +13,6 @@ use Rattle.lido_symbols.specs.FromText.{IsFromText, all_names}
 use Rattle.table_faults.specs.Faults.{table_faults}
 use Rattle.flat_grammar.specs.declared.flat.FlatSymbol.{FlatSymbol}
 use Rattle.flat_grammar.specs.declared.flat.FlatRule.{FlatRule}
-use Rattle.flat_grammar.specs.declared.flat.FlatComp.{FlatComp}
 use Rattle.flat_grammar.specs.declared.flat.Shape.{Shape}
 use Rattle.flat_grammar.specs.Rules.{attrs_of, symbols_of}
 use Rattle.rule_tables.specs.InForceFaults.{in_force_faults}
@@ -51,10 +50,6 @@ pub record AreFew (symbols : List FlatSymbol) (rules : List FlatRule) : Type 0 w
   pub attributes : All (λ (x : FlatSymbol). length x.attrs ≤ 256) symbols
   pub occurrences : All (λ (r : FlatRule). sum_by (λ (s : SymId). length (attrs_of symbols s)) (symbols_of r) ≤ 1024) rules
 
--- No rule gives a value to one attribute twice.
-abbrev pub IsOnce : FlatRule → Type 0
-IsOnce r = AllPairs (λ (c d : FlatComp). c.goal ≡ d.goal → ⊥) r.comps
-
 -- The grammar is the flat one of the specification, with these tables, needs and attributes. There are as few sets of INCLUDINGs as 64 bits number.
 pub record IsFlattened (spec : Spec) (early env : Environment) (T : Tables spec) (needs : Needs spec T) (slots : ℕ → List Slot) (symbols : List FlatSymbol) (rules : List FlatRule) (shapes : List Shape) (root : SymId) : Type 0 where
   pub tables : AreTables spec T env
@@ -62,6 +57,5 @@ pub record IsFlattened (spec : Spec) (early env : Environment) (T : Tables spec)
   pub names : AreNames spec early env
   pub ordered : AreSlots spec T needs slots
   pub grammar : IsFlat spec T needs slots env symbols rules shapes root
-  pub once : All IsOnce rules
   pub few : AreFew symbols rules
   pub few_includings : length T.includings < 2 ^ 64

@@ -15,9 +15,10 @@ use Rattle.lido_syntax.specs.declared.spec.Element.TheVariants.{Symbol, Literal}
 use Rattle.lido_syntax.specs.declared.spec.Target.{Target}
 use Rattle.lido_syntax.specs.declared.spec.Target.TheVariants as target
 use Rattle.lido_syntax.specs.declared.spec.Place.TheVariants as place
-use Rattle.lido_syntax.specs.declared.spec.Expr.{Expr, Terminal, Read, Including, Constituents}
+use Rattle.lido_syntax.specs.declared.spec.With.{With}
+use Rattle.lido_syntax.specs.declared.spec.Expr.{Expr, Terminal, Read, Including, Constituents, Call'}
 use Rattle.lido_syntax.specs.Production.{name_of, left_of}
-use Rattle.lido_syntax.specs.Parts.{leaves_of}
+use Rattle.lido_syntax.specs.Parts.{parts_of, leaves_of}
 use Rattle.lido_syntax.specs.Computation.{by_rule}
 use Rattle.lido_syntax.specs.Coordinates.{part_named, coordinate_named}
 use Rattle.lido_syntax.specs.Functions.{text_of}
@@ -106,9 +107,13 @@ abbrev pub attributes_of_target : Target → List Name
 attributes_of_target (target.Attr p a) = a ∷ []
 attributes_of_target _ = []
 
--- the names of attributes that ATTR and SYMBOL items declare
+-- what ATTR and SYMBOL items declare
+abbrev pub declarations : Spec → List Decl
+declarations spec = spec.attrs ++ flat_map (λ (item : SymbolItem). item.decls) spec.symbols
+
+-- the names of the attributes that are declared
 abbrev pub declared_names : Spec → List Name
-declared_names spec = map (λ (d : Decl). d.attr) (spec.attrs ++ flat_map (λ (item : SymbolItem). item.decls) spec.symbols)
+declared_names spec = map (λ (d : Decl). d.attr) (declarations spec)
 
 -- the names that stand as attributes in the text, with their places
 abbrev pub attribute_uses : Spec → List (ℕ × ℕ)
@@ -126,3 +131,17 @@ is_same_set spec sets p q = list_all (λ (r : RuleItem). is_same_option (listed 
 -- two CONSTITUENTS are one: they have one number
 abbrev pub is_same_constituents : Cons → Cons → Bool
 is_same_constituents k l = nat_eq k.number l.number
+
+-- the functions that a part of an expression calls by itself
+abbrev pub functions_of_with : Option With → List Name
+functions_of_with None = []
+functions_of_with (Some with) = with.comb ∷ with.single ∷ with.null ∷ []
+
+abbrev pub functions_of_part : Expr → List Name
+functions_of_part (Call' f shape args) = f ∷ []
+functions_of_part (Constituents k) = functions_of_with k.with
+functions_of_part _ = []
+
+-- the names of the text that are functions
+abbrev pub all_functions : Spec → List Name
+all_functions spec = flat_map (λ (c : Comp). flat_map functions_of_part (parts_of c)) (computations spec)

@@ -5,6 +5,7 @@ use Rattle.lido_syntax.specs.declared.spec.Typed1.{Typed1}
 use Rattle.lido_syntax.specs.Production.{name_of}
 use Rattle.lido_syntax.specs.Symbols.{IsNonterminal, IsRoot}
 use Rattle.lido_symbols.specs.Classes.{IsClass}
+use Rattle.lido_symbols.specs.Uses.{all_includings}
 use Rattle.need_graphs.specs.Users.{TellComputations}
 use Rattle.rule_tables.specs.declared.table.Tables.{Tables}
 use Rattle.flat_grammar.specs.declared.flat.FlatRule.{FlatRule}
@@ -26,3 +27,4 @@ pub record AreWithin (t : Tables) : Type 0 where
   pub symbols : length t.symbols ≤ 512
   pub plain : AreFew t.plain
   pub chains : length t.spec.chains ≤ 2 ^ 32
+  pub includings : length (all_includings t.spec) ≤ 2 ^ 32

@@ -1,5 +1,5 @@
 -- The flat grammar of a specification: all its parts, each by what it is.
-use Rattle.std.specs.Prelude.{◌≡◌, nat_eq, ℕ, suc, ◌+◌, ◌↔◌, ◌⊎◌, Bool, true, false, List, [], ◌∷◌, ◌++◌, map, length, Option, Some, None, slice_get, codes, decimal, Contains}
+use Rattle.std.specs.Prelude.{◌≡◌, nat_eq, ℕ, suc, ◌+◌, ◌↔◌, ◌⊎◌, Bool, true, false, List, [], ◌∷◌, ◌++◌, map, length, Option, Some, None, slice_get, codes, decimal, AllPairs, Contains}
 use Rattle.std.specs.List.{AllZip}
 use Rattle.lido_base.specs.declared.ids.SymId.{SymId}
 use Rattle.lido_base.specs.declared.kinds.Kind.{Kind}
@@ -102,7 +102,7 @@ module _ (spec : Spec) (T : Tables spec) (needs : Needs spec T) (slots : ℕ →
     pub gives : c.value ≡ value
     pub depends : (o : Occ) → Contains (dependencies c) o ↔ Contains needed o
 
-  -- a rule of the flat grammar is a plain rule with its name, its symbols and its computations
+  -- a rule of the flat grammar is a plain rule with its name, its symbols and its computations, each once
   pub record IsFlatRule (t : PlainRule × List Force) (flat : FlatRule) : Type 0 where
     pub rule : RuleItem
     pub of_rule : slice_get spec.rules t.0.rule ≡ Some rule
@@ -113,6 +113,7 @@ module _ (spec : Spec) (T : Tables spec) (needs : Needs spec T) (slots : ℕ →
         × Equation rule t.0 t.1 k s origin value needed × IsGiven rule t.0 t.1 c k s origin value needed
     pub all : (k : ℕ) (s : Slot) (origin : ℕ) (value : FlatExpr) (needed : List Occ) → Equation rule t.0 t.1 k s origin value needed
         → (c : FlatComp) × Contains flat.comps c × IsGiven rule t.0 t.1 c k s origin value needed
+    pub once : AllPairs (λ (c d : FlatComp). c.goal ≡ d.goal → ⊥) flat.comps
 
   -- the name, kind and type of an attribute, and whether a Bad value of it is a fault
   abbrev pub slot_text : Slot → List ℕ

@@ -1,5 +1,5 @@
 -- Which symbols need an INCLUDING, are wanted by a CONSTITUENTS, or need a chain: least sets over plain rules.
-use Rattle.std.specs.Prelude.{ℕ, ◌↔◌, Bool, true, false, not, ◌||◌, ◌&&◌, nat_eq, IsTrue, List, Option, Some, None, slice_get, option_and_then, is_some, zip}
+use Rattle.std.specs.Prelude.{ℕ, ◌≤◌, ◌↔◌, Bool, true, false, not, ◌||◌, ◌&&◌, nat_eq, IsTrue, List, Option, Some, None, slice_get, option_and_then, is_some, zip, All, Contains}
 use Rattle.std.specs.List.{list_any}
 use Rattle.lido_base.specs.Tree.{contains}
 use Rattle.lido_base.specs.Reach.{Reaches}
@@ -37,11 +37,17 @@ module _ (spec : Spec) (T : Tables spec) where
   abbrev pub ruled : List (PlainRule × List Force)
   ruled = zip rules T.forced
 
-  -- The numbers are those of the specification, and in force is what is there. Texts tell which bare names are coordinates.
+  -- the pairs stand at the first INCLUDING of their set
+  abbrev pub IsFirstOfSet : List Pair → Type 0
+  IsFirstOfSet pairs = (first : ℕ) × Contains (all_includings spec) (first, pairs)
+      × ((at : ℕ) (other : List Pair) → Contains (all_includings spec) (at, other) → IsTrue (is_same_set spec T.sets other pairs) → first ≤ at)
+
+  -- The numbers are those of the specification, a set is that of its first INCLUDING, and in force is what is there. Texts tell which bare names are coordinates.
   pub record AreTables (env : Environment) : Type 0 where
     pub symbols : AreNumbered nat_eq (symbol_uses spec env) T.symbols
     pub attributes : AreNumbered nat_eq (attribute_uses spec) T.attributes
     pub includings : AreNumbered (is_same_set spec T.sets) (all_includings spec) T.includings
+    pub first_includings : All IsFirstOfSet T.includings
     pub constituents : AreNumbered is_same_constituents (all_constituents spec) T.constituents
     pub forced : AreForced spec rules T.forced
 

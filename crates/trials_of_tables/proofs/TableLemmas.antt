@@ -1,5 +1,5 @@
 -- The tables of the specification of counted items.
-use Rattle.std.specs.Prelude.{◌≡◌, ℕ, ◌<◌, true, IsTrue, List, [], ◌∷◌, Contains, refl}
+use Rattle.std.specs.Prelude.{◌≡◌, ℕ, ◌<◌, ◌≤◌, true, IsTrue, List, [], ◌∷◌, Contains, refl}
 use Rattle.std.proofs.Common.{arith}
 use Rattle.lido_syntax.specs.declared.spec.Cons.{Cons}
 use Rattle.lido_syntax.specs.declared.spec.Pair.{Pair}
@@ -26,6 +26,8 @@ module _ (sets : Sets spec) where
       all = λ at k m. every (λ (u : ℕ × List Pair). (l : List Pair) × Contains (pairs ∷ []) l × IsTrue (is_same_set spec sets u.1 l)) (all_includings spec) ((pairs, (0, omega arith, refl), same_pairs), tt) (at, k) m;
       by_place = pairs-of (λ (k l : List Pair). (at : ℕ) (j : List Pair) → Contains (all_includings spec) (at, j) → IsTrue (is_same_set spec sets j l) → (first : ℕ) × (i : List Pair) × Contains (all_includings spec) (first, i) × IsTrue (is_same_set spec sets i k) × (first < at)) (pairs ∷ []) (tt, tt);
     };
+    first_includings = all-of (λ ps. (first : ℕ) × Contains (all_includings spec) (first, ps) × ((at : ℕ) (other : List Pair) → Contains (all_includings spec) (at, other) → IsTrue (is_same_set spec sets other ps) → first ≤ at))
+        (pairs ∷ []) ((84, (0, omega arith, refl), (λ at other m h. every (λ (u : ℕ × List Pair). 84 ≤ u.0) (all_includings spec) (omega arith, tt) (at, other) m)), tt);
     constituents = record {
       named = all-of (λ k. (at : ℕ) × Contains (all_constituents spec) (at, k)) (sum ∷ []) ((4, (0, omega arith, refl)), tt);
       all = λ at k m. every (λ (u : ℕ × Cons). (l : Cons) × Contains (sum ∷ []) l × IsTrue (is_same_constituents u.1 l)) (all_constituents spec) ((sum, (0, omega arith, refl), refl), tt) (at, k) m;

@@ -9,7 +9,7 @@ use Rattle.lido_syntax.specs.declared.spec.Expr.{Expr}
 use Rattle.lido_syntax.specs.declared.spec.Expr.TheVariants as expr
 use Rattle.lido_syntax.specs.Parts.{parts, expressions_of, parts_of}
 use Rattle.lido_syntax.proofs.ExpressionLemmas.{parts-Call}
-use Rattle.expr_types.specs.TypeFaults.{functions_of_part}
+use Rattle.lido_symbols.specs.Uses.{functions_of_part}
 use Rattle.expr_types.specs.Called.{called_in}
 
 flat-flat : {X A B : Type 0} (g : A → List B) (f : X → List A) (xs : List X) → flat_map g (flat_map f xs) ≡ flat_map (λ x. flat_map g (f x)) xs

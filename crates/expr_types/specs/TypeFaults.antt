@@ -5,14 +5,12 @@ use Rattle.lido_base.specs.Environment.{Environment}
 use Rattle.lido_syntax.specs.declared.fault.SpecFault.{SpecFault}
 use Rattle.lido_syntax.specs.declared.spec.Spec.{Spec}
 use Rattle.lido_syntax.specs.declared.spec.Name.{Name}
-use Rattle.lido_syntax.specs.declared.spec.With.{With}
 use Rattle.lido_syntax.specs.declared.spec.RuleItem.{RuleItem}
-use Rattle.lido_syntax.specs.declared.spec.Expr.{Expr, Constituents, Call'}
 use Rattle.lido_syntax.specs.Production.{name_of}
 use Rattle.lido_syntax.specs.Functions.{text_of, operation_of}
 use Rattle.lido_syntax.specs.Parts.{parts_of}
 use Rattle.lido_symbols.specs.Numbers.{AreNumbered}
-use Rattle.lido_symbols.specs.Uses.{with_place}
+use Rattle.lido_symbols.specs.Uses.{with_place, functions_of_part}
 use Rattle.rule_tables.specs.PlainRules.{PlainRule}
 use Rattle.rule_tables.specs.Forced.{Force, IsWrittenAt}
 use Rattle.rule_tables.specs.Needs.{Tables, ruled}
@@ -20,16 +18,6 @@ use Rattle.rule_tables.specs.InForceFaults.{goal_place}
 use Rattle.rule_tables.specs.ExtraOf.{IsBeforeIn}
 use Rattle.expr_types.specs.declared.typed.NamedOp.{NamedOp}
 use Rattle.expr_types.specs.Faults.{IsComputationFault}
-
--- the functions that a part of an expression calls by itself
-abbrev pub functions_of_with : Option With → List Name
-functions_of_with None = []
-functions_of_with (Some with) = with.comb ∷ with.single ∷ with.null ∷ []
-
-abbrev pub functions_of_part : Expr → List Name
-functions_of_part (Call' f shape args) = f ∷ []
-functions_of_part (Constituents k) = functions_of_with k.with
-functions_of_part _ = []
 
 module _ (spec : Spec) (T : Tables spec) (env : Environment) where
   -- the computation is in force in the plain rule of that number, which comes of the written one, at an occurrence of the symbol

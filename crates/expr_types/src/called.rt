@@ -2,7 +2,7 @@
 ghost use Rattle.std.specs.Prelude.{◌≡◌, ◌++◌, flat_map, IfOk, OnOk};
 ghost use Rattle.lido_syntax.specs.Parts.{expressions_of};
 ghost use Rattle.expr_types.specs.Called.{called_in};
-ghost use Rattle.expr_types.specs.TypeFaults.{functions_of_with};
+ghost use Rattle.lido_symbols.specs.Uses.{functions_of_with};
 
 use crate::computations::condition;
 use lido_base::Memory;

@@ -1,0 +1,7 @@
+pub mod OrderLemmas
+pub mod ApartLemmas
+pub mod NamesLemmas
+pub mod GivesLemmas
+pub mod FunctionLemmas
+pub mod ItemLemmas
+pub mod FromTextLemmas

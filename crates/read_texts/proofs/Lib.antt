@@ -5,3 +5,4 @@ pub mod GivesLemmas
 pub mod FunctionLemmas
 pub mod ItemLemmas
 pub mod FromTextLemmas
+pub mod IdLemmas

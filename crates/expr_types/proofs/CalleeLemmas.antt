@@ -20,7 +20,7 @@ use Rattle.expr_types.specs.Callees.{HasOneCount}
 use Rattle.expr_types.specs.Faults.{Begins}
 use Rattle.expr_types.specs.Typing.{Function, WithRows, Order, Gives, choices, function_of, last_type}
 use Rattle.expr_types.proofs.TypingLemmas.{same-option, one-call}
-use Rattle.expr_types.proofs.RowsLemmas.{type_eq, type-decides}
+use Rattle.leaf_types.proofs.TypeLemmas.{type_eq, type-decides}
 
 -- ---- all rows have as many arguments
 

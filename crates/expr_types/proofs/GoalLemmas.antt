@@ -22,7 +22,7 @@ use Rattle.rule_tables.specs.ForcedOf.{IsAttributeAt, IsChainAt, IsGoalAs}
 use Rattle.rule_tables.specs.TablesOf.{AreTablesOf, named_symbols}
 use Rattle.expr_types.specs.declared.computations.Wanted.{Wanted}
 use Rattle.expr_types.specs.declared.computations.Wanted.TheVariants as wanted
-use Rattle.expr_types.specs.Typing.{AreSingleTypes}
+use Rattle.leaf_types.specs.Single.{AreSingleTypes}
 use Rattle.expr_types.specs.Computations.{AttributeTakes}
 use Rattle.expr_types.specs.Wanted.{Takes, IsWantedOf}
 use Rattle.expr_types.specs.Goals.{IsAttributeType, IsChainType}

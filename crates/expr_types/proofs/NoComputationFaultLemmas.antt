@@ -15,7 +15,8 @@ use Rattle.lido_syntax.specs.declared.spec.Target.{Target}
 use Rattle.lido_syntax.specs.declared.spec.Target.TheVariants as target
 use Rattle.lido_syntax.specs.Sets.{Sets}
 use Rattle.lido_syntax.specs.Computation.{Goal, Holder}
-use Rattle.expr_types.specs.Typing.{HasExprType, AreSingleTypes}
+use Rattle.leaf_types.specs.Single.{AreSingleTypes}
+use Rattle.expr_types.specs.Typing.{HasExprType}
 use Rattle.expr_types.specs.Computations.{GoalTakes, IsTyped, IsConditionTyped}
 use Rattle.expr_types.specs.Faults.{IsFirstIn, IsRefused, IsConditionFault, IsComputationFault}
 use Rattle.expr_types.specs.Faults as faults

@@ -18,7 +18,8 @@ use Rattle.lido_syntax.specs.Production.{name_of}
 use Rattle.lido_syntax.specs.Attributes.{HasType}
 use Rattle.lido_syntax.specs.Sets.{Sets}
 use Rattle.lido_syntax.specs.Computation.{Holder}
-use Rattle.expr_types.specs.Typing.{Function, WithRows, Order, Gives, function_of, IsCall, IsPairType, ArePairTypes, IsGathered, HasExprType, HaveTypes, AreSingleTypes}
+use Rattle.leaf_types.specs.Single.{AreSingleTypes}
+use Rattle.expr_types.specs.Typing.{Function, WithRows, Order, Gives, function_of, IsCall, IsPairType, ArePairTypes, IsGathered, HasExprType, HaveTypes}
 use Rattle.expr_types.specs.Faults.{TakesMany, Begins, IsFirstMisfit, IsNameFault, IsWithFault, IsUnequal, IsGatheredFault, IsCallFault, IsFirstFault, IsFirstOfAll, begins}
 use Rattle.expr_types.specs.Faults as faults
 use Rattle.expr_types.proofs.TypingLemmas.{same-option, one-pairs, one-types}

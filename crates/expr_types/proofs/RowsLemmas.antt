@@ -1,62 +1,16 @@
 -- Looking for a row, row by row.
-use Rattle.std.specs.Prelude.{◌≡◌, ◌+◌, ◌<◌, ◌≤◌, ℕ, ◌⊎◌, Bool, true, List, [], ◌∷◌, drop, take, map, length, get_or, ◌-◌, Option, Some, None, option_map, slice_get, Contains, refl}
-use Rattle.std.specs.Bool.{Decides}
+use Rattle.std.specs.Prelude.{◌≡◌, ◌+◌, ◌<◌, ◌≤◌, ℕ, ◌⊎◌, List, [], ◌∷◌, drop, take, map, length, get_or, ◌-◌, Option, Some, None, option_map, slice_get, Contains, refl}
 use Rattle.std.proofs.Common.{subst, sym, ap, ◌∙◌, inl, inr, arith}
 use Rattle.std.proofs.lemmas.Option.{slice_get-map, slice_get-get_or, slice_get_past}
 use Rattle.lido_base.specs.declared.pattern.Pattern.{Pattern}
 use Rattle.lido_base.specs.declared.operation.Op.TheVariants as op
 use Rattle.std.proofs.lemmas.List.{drop_more, at_drop_all}
 use Rattle.std.proofs.lemmas.List.Elements.{Contains-get_or}
-use Rattle.std.proofs.lemmas.Bool.{false≢true}
-use Rattle.lido_base.specs.declared.value.ValueType.{ValueType}
 use Rattle.lido_base.specs.declared.value.ValueType.TheVariants as type
-use Rattle.lido_base.specs.contracts.value.ValueTypePartialEq.TheImpl.{eq-value}
 use Rattle.lido_base.specs.Types.{Signature, of_types, signatures}
 use Rattle.lido_base.proofs.Lists.{contains-nil, contains-cons, map-contains}
 use Rattle.expr_types.specs.declared.rows.Row.{Row}
 use Rattle.expr_types.specs.Rows.{signature_of, signatures_of, pattern_signature}
-
--- ---- types are equal where the test says so
-
-abbrev pub type_eq : ValueType → ValueType → Bool
-type_eq = (eq-value).it
-
-same-type : (a : ValueType) → type_eq a a ≡ true
-same-type type.Int = refl
-same-type type.Str = refl
-same-type type.Bool = refl
-same-type type.Text = refl
-same-type type.Void = refl
-
-equal-types : (a b : ValueType) → type_eq a b ≡ true → a ≡ b
-equal-types type.Int type.Int e = refl
-equal-types type.Int type.Str e = absurd (false≢true e)
-equal-types type.Int type.Bool e = absurd (false≢true e)
-equal-types type.Int type.Text e = absurd (false≢true e)
-equal-types type.Int type.Void e = absurd (false≢true e)
-equal-types type.Str type.Int e = absurd (false≢true e)
-equal-types type.Str type.Str e = refl
-equal-types type.Str type.Bool e = absurd (false≢true e)
-equal-types type.Str type.Text e = absurd (false≢true e)
-equal-types type.Str type.Void e = absurd (false≢true e)
-equal-types type.Bool type.Int e = absurd (false≢true e)
-equal-types type.Bool type.Str e = absurd (false≢true e)
-equal-types type.Bool type.Bool e = refl
-equal-types type.Bool type.Text e = absurd (false≢true e)
-equal-types type.Bool type.Void e = absurd (false≢true e)
-equal-types type.Text type.Int e = absurd (false≢true e)
-equal-types type.Text type.Str e = absurd (false≢true e)
-equal-types type.Text type.Bool e = absurd (false≢true e)
-equal-types type.Text type.Text e = refl
-equal-types type.Text type.Void e = absurd (false≢true e)
-equal-types type.Void type.Int e = absurd (false≢true e)
-equal-types type.Void type.Str e = absurd (false≢true e)
-equal-types type.Void type.Bool e = absurd (false≢true e)
-equal-types type.Void type.Text e = absurd (false≢true e)
-equal-types type.Void type.Void e = refl
-
-pub type-decides : (a b : ValueType) → Decides (type_eq a b) (a ≡ b)
-type-decides a b = (equal-types a b, λ e. subst (λ u. type_eq a u ≡ true) e (same-type a))
 
 -- ---- a row that has P
 

@@ -29,7 +29,8 @@ use Rattle.lido_syntax.specs.Sets.{Sets}
 use Rattle.lido_syntax.specs.Computation.{Holder}
 use Rattle.lido_syntax.specs.Coordinates.{coordinate_named}
 use Rattle.lido_syntax.specs.Functions.{text_of, operation_of}
-use Rattle.expr_types.specs.Typing.{choices, Function, WithRows, Order, Gives, function_of, IsCall, IsPairType, ArePairTypes, IsGathered, IsReadType, IsBareType, HasExprType, HaveTypes, AreSingleTypes}
+use Rattle.leaf_types.specs.Single.{AreSingleTypes}
+use Rattle.expr_types.specs.Typing.{choices, Function, WithRows, Order, Gives, function_of, IsCall, IsPairType, ArePairTypes, IsGathered, IsReadType, IsBareType, HasExprType, HaveTypes}
 
 -- ---- rows of types
 

@@ -1,8 +1,5 @@
 -- Where an expression stands, as the code has it: the types of what names mean there, and which names mean something.
-use Rattle.std.specs.Prelude.{◌≡◌, ℕ, ℤ, ◌<◌, ◌⊎◌, Bool, true, false, List, [], ◌∷◌, length, Option, Some, None, MatchOption, All, Contains}
-use Rattle.std.specs.HashMap as table
-use Rattle.std.specs.HashSet as bag
-use Rattle.std.specs.Prelude.{nat_eq}
+use Rattle.std.specs.Prelude.{ℕ, ℤ, ◌<◌, ◌⊎◌, List, [], ◌∷◌, length, Option, Some, None, All, Contains}
 use Rattle.lido_base.specs.declared.value.ValueType.{ValueType}
 use Rattle.lido_base.specs.Environment.{Environment}
 use Rattle.lido_syntax.specs.declared.fault.SpecFault.{SpecFault}
@@ -16,18 +13,18 @@ use Rattle.lido_syntax.specs.declared.spec.RuleItem.{RuleItem}
 use Rattle.lido_syntax.specs.declared.spec.Expr.{Expr, Terminal, Read, Including, Constituents}
 use Rattle.lido_syntax.specs.Production.{name_of}
 use Rattle.lido_syntax.specs.Parts.{leaves}
-use Rattle.lido_syntax.specs.Symbols.{IsNonterminal, IsTerminal, IsChain, IsTypedChain}
-use Rattle.lido_syntax.specs.Attributes.{Has, HasType}
-use Rattle.lido_syntax.specs.Sets.{Sets, Inherits}
+use Rattle.lido_syntax.specs.Symbols.{IsTerminal, IsChain}
+use Rattle.lido_syntax.specs.Attributes.{Has}
+use Rattle.lido_syntax.specs.Sets.{Sets}
 use Rattle.lido_syntax.specs.Computation as written
 use Rattle.lido_syntax.specs.Coordinates.{coordinate_named}
-use Rattle.symbol_attributes.specs.Facts.{is_same_key}
 use Rattle.expr_types.specs.declared.scope.Scope.{Scope}
 use Rattle.expr_types.specs.declared.scope.Holder.{Holder}
 use Rattle.expr_types.specs.declared.scope.Holder.TheVariants as holder
-use Rattle.expr_types.specs.declared.leaf_types.LeafTypes.{LeafTypes}
+use Rattle.leaf_types.specs.Single.{AreSingleTypes}
+use Rattle.leaf_types.specs.Types.{AreTypesOf}
 use Rattle.expr_types.specs.Functions.{environment_of, AreFunctions}
-use Rattle.expr_types.specs.Typing.{IsCall, IsBareType, IsReadType, HasExprType, AreSingleTypes}
+use Rattle.expr_types.specs.Typing.{IsCall, IsBareType, IsReadType, HasExprType}
 use Rattle.expr_types.specs.Faults.{IsFirstFault}
 
 -- the functions of a WITH take sources of this type, and give its own
@@ -36,38 +33,12 @@ pub record HasFold (env : Environment) (source : ValueType) (with : With) : Type
   pub single : IsCall env with.single (source ∷ []) with.ty
   pub null : IsCall env with.null [] with.ty
 
--- what the tables have for an attribute of a symbol, for a terminal, and for a chain; whether an attribute of a class has one
--- type on all that inherit the class
-unfoldable pub attribute_type : LeafTypes → ℕ → ℕ → Option ValueType
-attribute_type types s a = table.get is_same_key types.attributes (s, a)
-
-unfoldable pub terminal_type : LeafTypes → ℕ → Option ValueType
-terminal_type types s = table.get nat_eq types.terminals s
-
-unfoldable pub chain_type : LeafTypes → ℕ → Option ValueType
-chain_type types c = table.get nat_eq types.chains c
-
-unfoldable pub is_uneven : LeafTypes → ℕ → ℕ → Bool
-is_uneven types s a = bag.contains is_same_key types.uneven (s, a)
-
 -- the symbol at a place, where the computation is in force at an occurrence of this one
 abbrev pub symbol_in : ℕ → Place → ℕ
 symbol_in own (place.Named x i) = name_of x
 symbol_in own _ = own
 
 module _ (spec : Spec) where
-  -- each nonterminal that inherits the class has the attribute with this type
-  abbrev pub IsEven : ℕ → ℕ → ValueType → Type 0
-  IsEven class a ty = (s : ℕ) → IsNonterminal spec s → Inherits spec s class → HasType spec s a ty
-
-  -- The tables have the types of the specification.
-  pub record AreTypesOf (types : LeafTypes) : Type 0 where
-    pub attribute : (s a : ℕ) → MatchOption (attribute_type types s a) (Has spec s a → ⊥) (λ (ty : ValueType). HasType spec s a ty)
-    pub terminal : (s : ℕ) → MatchOption (terminal_type types s) ((ty : ValueType) → IsTerminal spec s ty → ⊥) (λ (ty : ValueType). IsTerminal spec s ty)
-    pub chain : (c : ℕ) → MatchOption (chain_type types c) (IsChain spec c → ⊥) (λ (ty : ValueType). IsTypedChain spec c ty)
-    pub even : (class a : ℕ) (ty : ValueType) → HasType spec class a ty → is_uneven types class a ≡ false → IsEven class a ty
-    pub uneven : (class a : ℕ) (ty : ValueType) → HasType spec class a ty → is_uneven types class a ≡ true → IsEven class a ty → ⊥
-
   -- the pair names an attribute of its symbol
   abbrev pub IsPairOf : Pair → Type 0
   IsPairOf p = Has spec (name_of p.sym) (name_of p.attr)

@@ -1,5 +1,5 @@
 -- The first fault of types in a specification, and the operations that its computations in force name.
-use Rattle.std.specs.Prelude.{◌≡◌, ℕ, nat_eq, not, ◌||◌, Bool, List, [], ◌∷◌, map, flat_map, filter, Option, Some, None, slice_get, codes, All, Contains}
+use Rattle.std.specs.Prelude.{◌≡◌, ℕ, nat_eq, not, ◌||◌, Bool, List, [], ◌∷◌, map, flat_map, filter, Some, slice_get, codes, All, Contains}
 use Rattle.std.specs.Str.{bytes_eq}
 use Rattle.lido_base.specs.Environment.{Environment}
 use Rattle.lido_syntax.specs.declared.fault.SpecFault.{SpecFault}

@@ -109,9 +109,3 @@ module _ (spec : Spec) (sets : Sets spec) where
         HaveTypes end_of-Expr [] = Unit {0}
         HaveTypes (more_of-Expr e es) (ty ∷ types) = HasExprType e ty × HaveTypes es types
         HaveTypes _ _ = ⊥
-
--- What is declared gives attributes, terminals and chains one type at most.
-pub record AreSingleTypes (spec : Spec) : Type 0 where
-  pub attribute : (s a : ℕ) (ty other : ValueType) → HasType spec s a ty → HasType spec s a other → ty ≡ other
-  pub terminal : (s : ℕ) (ty other : ValueType) → IsTerminal spec s ty → IsTerminal spec s other → ty ≡ other
-  pub chain : (c : ℕ) (ty other : ValueType) → IsTypedChain spec c ty → IsTypedChain spec c other → ty ≡ other

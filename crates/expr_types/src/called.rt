@@ -45,7 +45,7 @@ fn push_called(names: &mut Vec<Name>, value: &Expr) -> Result<(), Memory>
 }
 
 /// The functions that a computation calls, by itself or in a WITH, in the order of its parts.
-pub(crate) fn functions_called(alloc: Global, comp: &Comp) -> Result<Vec<Name>, Memory>
+pub fn functions_called(alloc: Global, comp: &Comp) -> Result<Vec<Name>, Memory>
     ensures { IfOk result (λ names. names.items ≡ flat_map called_in (expressions_of comp.now)) }
 {
     let mut names = Vec::new(alloc);

@@ -17,7 +17,7 @@ use std::alloc::Global;
 
 /// What a goal takes.
 #[derive(Clone, Copy)]
-pub(crate) enum Wanted {
+pub enum Wanted {
     /// Any type: a VOID attribute.
     Any,
     Only(ValueType),
@@ -91,7 +91,7 @@ fn check_after(alloc: Global, scope: &Scope, after: &[Expr]) -> Result<(), SpecF
 
 /// Whether a computation has types that its goal takes, or its first fault: of a message's condition, of the value, of what
 /// stands behind the arrow. An `Err` may be want of memory too.
-pub(crate) fn check_computation(
+pub fn check_computation(
     alloc: Global,
     scope: &Scope,
     comp: &Comp,

@@ -69,7 +69,7 @@ impl PatternNames {
 
 /// The functions of LIDO, of PTG and of patterns, by name.
 #[derive(Drop)]
-pub(crate) struct Functions<'a> {
+pub struct Functions<'a> {
     pub strings: &'a Strings,
     pub patterns: &'a [Pattern],
     rows: Vec<Row<'a>>,
@@ -78,7 +78,7 @@ pub(crate) struct Functions<'a> {
 
 impl<'a> Functions<'a> {
     /// The functions, where these are the patterns and these the texts of all names. The time is linear in the patterns.
-    pub(crate) fn of(
+    pub fn of(
         alloc: Global,
         strings: &'a Strings,
         patterns: &'a [Pattern],
@@ -99,7 +99,7 @@ impl<'a> Functions<'a> {
     }
 
     /// The text of an id, and the empty one where there is none.
-    pub(crate) fn text(&self, id: StrId) -> &[u8]
+    pub fn text(&self, id: StrId) -> &[u8]
         ensures text { result.now ≡ text_of (environment_of self.now) id.0 }
         ensures distinct { IsDistinctTexts self.now.strings.now }
     {
@@ -123,7 +123,7 @@ impl<'a> Functions<'a> {
     }
 
     /// The operation that has this text for its name: that of LIDO or PTG, or a pattern's function.
-    pub(crate) fn operation(&self, text: &[u8]) -> Option<Op>
+    pub fn operation(&self, text: &[u8]) -> Option<Op>
         requires functions { AreFunctions self.now }
         requires distinct { IsDistinctTexts self.now.strings.now }
         ensures { result ≡ operation_of (environment_of self.now) text.now }

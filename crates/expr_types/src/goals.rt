@@ -4,7 +4,7 @@ ghost use Rattle.lido_base.specs.Environment.{Environment};
 ghost use Rattle.lido_base.specs.declared.value.ValueType.TheVariants as type;
 ghost use Rattle.lido_base.specs.declared.value.ValueType.{ValueType as OneType};
 ghost use Rattle.lido_syntax.specs.Computation.{Goal as Aim};
-ghost use Rattle.expr_types.specs.Typing.{AreSingleTypes};
+ghost use Rattle.leaf_types.specs.Single.{AreSingleTypes};
 ghost use Rattle.expr_types.specs.Wanted.{Takes, IsWantedOf};
 ghost use Rattle.expr_types.specs.Goals.{IsAttributeType, IsChainType};
 ghost use Rattle.rule_tables.specs.ForcedOf.{IsAttributeAt, IsChainAt, IsGoalAs};
@@ -42,7 +42,7 @@ fn chain_type(tables: &Tables, place: u32) -> ValueType
 }
 
 /// What a goal at an occurrence of the symbol with that number takes.
-pub(crate) fn wanted_by(tables: &Tables, symbol: usize, goal: Goal) -> Wanted
+pub fn wanted_by(tables: &Tables, symbol: usize, goal: Goal) -> Wanted
     requires { (aim : Aim) × IsGoalAs tables.now symbol goal aim }
     ensures { (env : Environment) (s : ℕ) (aim : Aim) → AreTablesOf env tables.now → AreSingleTypes tables.now.spec
         → slice_get (named_symbols tables.now) symbol ≡ Some s → IsGoalAs tables.now symbol goal aim

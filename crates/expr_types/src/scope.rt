@@ -5,21 +5,21 @@ ghost use Rattle.expr_types.specs.Scopes.{IsScope, IsThereIn, IsBareIn, IsReadIn
 ghost use Rattle.lido_syntax.specs.declared.spec.Expr.TheVariants as expression;
 
 use crate::functions::Functions;
-use crate::leaf_types::LeafTypes;
+use leaf_types::LeafTypes;
 use lido_base::{StrId, ValueType};
 use lido_symbols::{is_coordinate_in_rule, is_coordinate_in_symbol};
 use lido_syntax::{Name, Place, RuleItem};
 
 /// Whose body a computation stands in.
 #[derive(Clone, Copy)]
-pub(crate) enum Holder {
+pub enum Holder {
     Rule,
     Symbol,
 }
 
 /// Where an expression stands: in a computation of that holder, in force in the rule at an occurrence of a symbol.
 #[derive(Drop)]
-pub(crate) struct Scope<'a> {
+pub struct Scope<'a> {
     pub functions: &'a Functions<'a>,
     pub types: &'a LeafTypes<'a>,
     pub rule: &'a RuleItem,

@@ -8,7 +8,7 @@ use Rattle.lido_syntax.specs.declared.spec.Spec.{Spec}
 use Rattle.lido_syntax.specs.declared.spec.RuleItem.{RuleItem}
 use Rattle.lido_syntax.specs.Symbols.{IsTerminal}
 use Rattle.lido_syntax.specs.Attributes.{HasType, by_symbol, by_attr, by_default, IsTypedBySymbol}
-use Rattle.expr_types.specs.Typing.{AreSingleTypes}
+use Rattle.leaf_types.specs.Single.{AreSingleTypes}
 
 module _ (rules : List RuleItem) where
   abbrev bare : Spec

@@ -8,7 +8,8 @@ ghost use Rattle.lido_syntax.specs.declared.spec.Expr.{Expr as Expression};
 ghost use Rattle.lido_syntax.specs.declared.spec.Expr.TheVariants as expression;
 ghost use Rattle.lido_syntax.specs.declared.spec.RuleItem.{RuleItem as Rule};
 ghost use Rattle.lido_syntax.specs.declared.spec.Spec.{Spec as Specification};
-ghost use Rattle.expr_types.specs.Typing.{HasExprType, AreSingleTypes};
+ghost use Rattle.leaf_types.specs.Single.{AreSingleTypes};
+ghost use Rattle.expr_types.specs.Typing.{HasExprType};
 
 /// Where nothing is declared, attributes, terminals and chains have one type at most.
 pub fn single_types()

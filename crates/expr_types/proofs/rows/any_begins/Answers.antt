@@ -8,7 +8,8 @@ use Rattle.lido_base.specs.Types.{Signature}
 use Rattle.expr_types.specs.declared.rows.Row.{Row}
 use Rattle.expr_types.specs.Faults.{Begins}
 use Rattle.expr_types.specs.Rows.{signatures_of}
-use Rattle.expr_types.proofs.RowsLemmas.{HasRow, row-step, row-none, row-here, type-decides}
+use Rattle.leaf_types.proofs.TypeLemmas.{type-decides}
+use Rattle.expr_types.proofs.RowsLemmas.{HasRow, row-step, row-none, row-here}
 use Rattle.expr_types.proofs.rows.any_begins.Goals as goal
 
 abbrev Starts : List ValueType → Signature → Type 0

@@ -6,7 +6,8 @@ use Rattle.std.proofs.lemmas.Bool.{false≢true}
 use Rattle.lido_base.specs.declared.value.ValueType.{ValueType}
 use Rattle.lido_base.specs.Types.{Signature, of_types}
 use Rattle.expr_types.specs.Rows.{signatures_of}
-use Rattle.expr_types.proofs.RowsLemmas.{HasRow, row-step, row-none, row-here, type-decides}
+use Rattle.leaf_types.proofs.TypeLemmas.{type-decides}
+use Rattle.expr_types.proofs.RowsLemmas.{HasRow, row-step, row-none, row-here}
 use Rattle.expr_types.proofs.rows.given.Goals as goal
 
 abbrev Is : List ValueType → ValueType → Signature → Type 0

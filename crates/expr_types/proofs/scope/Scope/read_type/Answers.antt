@@ -2,7 +2,8 @@ use Rattle.std.specs.Prelude.{◌⊎◌}
 use Rattle.std.proofs.Common.{sym, ap, ◌∙◌, inl, inr}
 use Rattle.lido_syntax.specs.Symbols.{IsChain, IsTypedChain}
 use Rattle.lido_syntax.specs.Attributes.{Has, HasType}
-use Rattle.expr_types.specs.Scopes.{spec_of, symbol_in, attribute_type}
+use Rattle.leaf_types.specs.Types.{attribute_type}
+use Rattle.expr_types.specs.Scopes.{spec_of, symbol_in}
 use Rattle.expr_types.proofs.ScopeLemmas.{lacks, lacks-all}
 use Rattle.expr_types.proofs.scope.Scope.read_type.Goals as goal
 

@@ -1,0 +1,18 @@
+use Rattle.std.proofs.Common.{sym, ap, ◌∙◌, Some}
+use Rattle.std.proofs.lemmas.Option.{slice_get-get_or}
+use Rattle.leaf_types.specs.Tables.{type_of_attribute}
+use Rattle.leaf_types.specs.Uneven.{IsOtherOnClass}
+use Rattle.leaf_types.proofs.MoreLemmas.{more-begin, more-next, more-all}
+use Rattle.leaf_types.proofs.uneven.note_classes.Goals as goal
+
+pub loop-row-init : goal.loop-row-init
+loop-row-init c = more-begin (IsOtherOnClass c.args.types.now c.args.heirs.now c.args.heir.0) c.args.rows.now (type_of_attribute c.args.uneven.now)
+
+pub loop-row-preserved : goal.loop-row-preserved
+loop-row-preserved c =
+    more-next (IsOtherOnClass c.args.types.now c.args.heirs.now c.args.heir.0) c.args.rows.now c.loop-row.row-index c.row-item.result (type_of_attribute c.args.uneven.now) (type_of_attribute c.loop-row.uneven) (type_of_attribute c.note_class.new.uneven)
+    (slice_get-get_or _ _ _ c.loop-row-test.true ∙ ap Some (sym c.row-item.is)) c.loop-row.invariant c.in_ok-note_class.ensures
+
+pub returns : goal.returns
+returns c =
+    more-all (IsOtherOnClass c.args.types.now c.args.heirs.now c.args.heir.0) c.args.rows.now c.loop-row.row-index (type_of_attribute c.args.uneven.now) (type_of_attribute c.loop-row.uneven) c.loop-row-test.false c.loop-row.invariant

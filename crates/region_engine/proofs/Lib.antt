@@ -1,0 +1,11 @@
+pub mod Looks
+pub mod Chains
+pub mod Sets
+pub mod Lists
+pub mod Shared
+pub mod Offsets
+pub mod Evaluated
+pub mod Evaluations
+pub mod Moves
+pub mod Puts
+pub mod Openings

@@ -1,0 +1,6 @@
+pub mod Standing
+pub mod Behind
+pub mod Kept
+pub mod Inputs
+pub mod Steps
+pub mod Regions

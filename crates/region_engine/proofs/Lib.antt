@@ -9,3 +9,6 @@ pub mod Evaluations
 pub mod Moves
 pub mod Puts
 pub mod Openings
+pub mod PutKeys
+pub mod Given
+pub mod Giving

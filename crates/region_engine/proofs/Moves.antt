@@ -7,7 +7,7 @@ use Rattle.std.proofs.lemmas.Option.{slice_get_within}
 use Rattle.std.proofs.Common.{◌≡◌, ◌<◌, ◌≤◌, ◌+◌, ◌*◌, ℕ, Bool, true, false, List, [], ◌∷◌, ◌++◌, length, take, drop, Some, refl, arith, ap, sym, ◌∙◌, subst, append-nil, ◌⊎◌, inl, inr, ⊎_elim}
 use mathlib.Core.Logic.{dite}
 use native.Mathlib.Decide.{ℕ_discrete}
-use Rattle.boundary_table.specs.Desk.{Knows, GoesOn}
+use Rattle.boundary_table.specs.Desk.{Held, Knows, GoesOn}
 use Rattle.flat_grammar.specs.WholeOrder.{Instance}
 use Rattle.flat_grammar.proofs.Lists.{held}
 use Rattle.core_machine.specs.Machine.{Item, eval_of, put_of}
@@ -20,6 +20,7 @@ use Rattle.region_engine.specs.declared.region.Region.{Region}
 use Rattle.region_engine.specs.Behind.{list, put_key, keys_of, keys_at, keys_since, words_of}
 use Rattle.region_engine.specs.Kept.{IsBehind}
 use Rattle.region_engine.specs.Regions.{number, WasDelivered, IsDesk, IsRegionOf, IsSame, IsWaiting}
+use Rattle.region_engine.proofs.PutKeys.{nothing-behind}
 use Rattle.region_engine.proofs.Lists.{take-more, keys-next}
 use Rattle.region_engine.proofs.Looks.{knows-later, missed-later}
 
@@ -59,13 +60,13 @@ module _ (j : Task) (r : ℕ) (g h : Region) where
     pub stack : vec_capacity h.bench.stack ≡ vec_capacity g.bench.stack
     pub since : h.since ≡ g.since
     pub numbered : h.numbered ≡ g.numbered
-    pub delivered : (key : ℕ) → WasDelivered g key ↔ WasDelivered h key
+    pub delivered : (key : ℕ) → WasDelivered g key → WasDelivered h key
     pub goes_on : GoesOn g.desk h.desk
     pub numbers : h.desk.view.numbers ≡ g.desk.view.numbers
     pub mine : h.desk.view.mine ≡ g.desk.view.mine
 
-  still : (key : ℕ) → ((key : ℕ) → WasDelivered g key ↔ WasDelivered h key) → GoesOn g.desk h.desk → WasDelivered g key ⊎ Knows g.desk key → WasDelivered h key ⊎ Knows h.desk key
-  still key same on (inl a) = inl ((same key).0 a)
+  still : (key : ℕ) → ((key : ℕ) → WasDelivered g key → WasDelivered h key) → GoesOn g.desk h.desk → WasDelivered g key ⊎ Knows g.desk key → WasDelivered h key ⊎ Knows h.desk key
+  still key same on (inl a) = inl (same key a)
   still key same on (inr a) = inr (knows-later g.desk h.desk key on a)
 
   module _ (at : IsRegionOf j r g) where
@@ -144,7 +145,7 @@ module _ (j : Task) (r : ℕ) (g h : Region) where
         desk = desk-stays m.goes_on m.numbers m.numbered;
         used = record {
           inputs = λ n i k low high e need far. ⊎_elim
-              (λ before. still (key_of j k) m.delivered m.goes_on (at.used.inputs n i k (let a = m.since in omega (arith, a, low)) before e need far))
+              (λ before. still (key_of j k) (λ key. (m.delivered key).0) m.goes_on (at.used.inputs n i k (let a = m.since in omega (arith, a, low)) before e need far))
               (λ here. m.inputs i k (this n (eval_of i) here e) need far)
               (here-or-before n high);
           puts = λ yes n i low high e. ⊎_elim
@@ -178,3 +179,30 @@ waiting-before j a b c same w = record {
   undelivered = w.undelivered;
   missed = missed-later a.desk b.desk c.desk (key_of j w.input) same.desk w.missed;
 }
+
+-- a region with another desk, given where it stands
+pub new-desk : (j : Task) (r : ℕ) (g : Region) (desk : Held) (numbered : Bool) → IsRegionOf j r g → IsDesk j desk (if numbered then r ∷ [] else []) → desk.view.mine ≡ []
+    → IsRegionOf j r (record g { desk = desk; numbered = numbered; since = g.position })
+new-desk j r g desk numbered at is none = record {
+  is_region = at.is_region;
+  cursor = at.cursor;
+  rest = at.rest;
+  count = at.count;
+  within = at.within;
+  behind = at.behind;
+  puts = at.puts;
+  puts_room = at.puts_room;
+  empty = at.empty;
+  stack = at.stack;
+  since = omega arith;
+  desk = is;
+  used = record {
+    inputs = λ n i k low high e need far. absurd (omega (arith, low, high));
+    puts = λ yes n i low high e. absurd (omega (arith, low, high));
+    mine = none ∙ nothing numbered;
+  };
+}
+  where
+    nothing : (b : Bool) → ◌≡◌ {A = List ℕ} [] (if b then words_of (keys_since j r g.position g.position) else [])
+    nothing true = ap (λ l. words_of (keys_of j l)) (sym (nothing-behind (list j r) g.position))
+    nothing false = refl

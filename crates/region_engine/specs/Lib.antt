@@ -4,3 +4,4 @@ pub mod Kept
 pub mod Inputs
 pub mod Steps
 pub mod Regions
+pub mod Deliveries

@@ -2,6 +2,7 @@
 #![tactic(auto)]
 
 mod evaluation;
+mod handing;
 mod inputs;
 mod marks;
 mod region;
@@ -9,4 +10,5 @@ mod sites;
 mod sizes;
 mod values;
 
+pub use handing::deliver;
 pub use region::Region;

@@ -1,5 +1,5 @@
 //! A region at work.
-ghost use Rattle.std.specs.Prelude.{◌≡◌, ◌≤◌, ◌+◌, ◌⊎◌, true, [], ◌∷◌, if◌then◌else◌, length, slice_get, IfOk, OnOk, OnErr, Some};
+ghost use Rattle.std.specs.Prelude.{◌≡◌, ◌<◌, ◌≤◌, ℕ, Contains, ◌+◌, ◌⊎◌, true, [], ◌∷◌, if◌then◌else◌, length, slice_get, IfOk, OnOk, OnErr, Some};
 ghost use Rattle.boundary_table.specs.Desk.{IsOwner};
 ghost use Rattle.flat_grammar.specs.WholeOrder.{Instance};
 ghost use Rattle.flat_grammar.specs.Instances.{instance_at};
@@ -9,7 +9,9 @@ ghost use Rattle.core_machine.specs.Machine.{eval_of, put_of};
 ghost use Rattle.core_machine.specs.Cursors.{left, IsFirst};
 ghost use Rattle.region_engine.specs.Behind.{keys_at, list, named_keys};
 ghost use Rattle.region_engine.specs.Steps.{IsEmptyBench, IsLeft};
-ghost use Rattle.region_engine.specs.Regions.{items_left, number as number_of, IsDesk, IsOpening, IsRegion, IsSame, IsWaiting};
+ghost use Rattle.core_machine.specs.Keys.{contents_of};
+ghost use Rattle.region_engine.specs.Deliveries.{HasNewDesk, IsGiven};
+ghost use Rattle.region_engine.specs.Regions.{WasDelivered, items_left, number as number_of, IsDesk, IsOpening, IsRegion, IsSame, IsWaiting};
 
 use crate::evaluation::{Bench, evaluate_next};
 use crate::sizes::{cells_of_region, stack_room};
@@ -245,5 +247,55 @@ impl Region {
             }
         }
         used
+    }
+
+    /// How many keys the region put.
+    pub(crate) fn puts(&self) -> usize
+        ensures { result ≡ length self.now.puts.items }
+    {
+        self.puts.len()
+    }
+
+    /// The key of a put, counted from 0, and its value.
+    pub(crate) fn put_at(&self, job: &Job, place: usize) -> (u32, Value)
+        requires region { IsRegion job.now self.now }
+        requires place { place < length self.now.puts.items }
+        ensures key { slice_get self.now.puts.items place ≡ Some result.0 }
+        ensures value { slice_get (contents_of job.now) result.0 ≡ Some result.1 }
+    {
+        job.facts();
+        let key = self.puts[place];
+        let value = self.values.shared[key as usize];
+        (key, value)
+    }
+
+    /// Has the value of a key delivered.
+    pub(crate) fn take(&mut self, job: &Job, key: u32, value: Value)
+        requires region { IsRegion job.now self.old }
+        requires value { slice_get (contents_of job.now) key ≡ Some value }
+        ensures region { IsRegion job.now self.new }
+        ensures given { IsGiven (key ∷ []) self.old self.new }
+    {
+        job.facts();
+        self.values.deliver(key, value);
+    }
+
+    /// Gives the region the desk of another table of the job, and gives back the one that it had. `numbered` tells whether the new
+    /// desk drew the region's number. It takes no memory.
+    pub fn change_desk(&mut self, job: &Job, desk: Desk, numbered: bool) -> Desk
+        requires region { IsRegion job.now self.old }
+        requires delivered { (key : ℕ) → Contains self.old.puts.items key → WasDelivered self.old key }
+        requires desk { IsDesk job.now desk (if numbered then number_of self.old ∷ [] else []) }
+        requires nothing_stored { desk.view.mine ≡ [] }
+        ensures region { IsRegion job.now self.new }
+        ensures desk { (self.new.desk ≡ desk) × (self.new.numbered ≡ numbered) }
+        ensures since { self.new.since ≡ self.new.position }
+        ensures same { HasNewDesk self.old self.new }
+        ensures back { result ≡ self.old.desk }
+    {
+        let _ = job;
+        self.numbered = numbered;
+        self.since = self.position;
+        std::mem::replace(&mut self.desk, desk)
     }
 }

@@ -4,6 +4,7 @@ ghost use Rattle.flat_grammar.specs.Instances.{instance_at};
 ghost use Rattle.lido_base.specs.declared.value.Value.TheVariants as value;
 ghost use Rattle.tree_store.specs.Regions.{region};
 ghost use Rattle.core_machine.specs.Instances.{IsSite};
+ghost use Rattle.region_engine.specs.Deliveries.{IsDeliveredTo};
 ghost use Rattle.region_engine.specs.Kept.{own_offsets, stored, AreEmpty, AreSized, IsKeptFor, IsMarkedFor};
 
 use crate::marks::Mark;
@@ -64,6 +65,16 @@ impl Values {
         let target = node_at(job, node, o.occ);
         let place = self.begins[target as usize] as usize + o.attr.0 as usize;
         self.own.get(place).copied().unwrap_or(Value::Void)
+    }
+
+    /// Has the value of a key delivered.
+    pub fn deliver(&mut self, key: u32, value: Value)
+        requires shared { key < length self.old.shared.items }
+        requires marks { key < length self.old.marks.items }
+        ensures { IsDeliveredTo self.old self.new key value }
+    {
+        self.shared[key as usize] = value;
+        self.marks[key as usize] = Mark::Delivered;
     }
 
     /// Keeps the value that a node's rule computes for a goal.

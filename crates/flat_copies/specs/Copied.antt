@@ -19,7 +19,7 @@ abbrev pub AreKnown : Environment → Ops → Expr → Type 0
 AreKnown env ops e = (f : Name) (args : List Expr) → Contains (parts e) (expr.Call f args) → IsKnown env ops (name_of f)
 
 -- Where what is given for each leaf is the definition's, the copy is the definition's.
-abbrev pub IsCopied : List (List ℕ) → Ops → (Expr → FlatExpr) → ℕ → Expr → FlatExpr → Type 0
-IsCopied texts ops gives comp e made = (env : Environment) (terminal : Name → Option ℤ → FlatExpr) (read : Place → ℕ → FlatExpr) (including : List Pair → FlatExpr) (constituents : Cons → FlatExpr)
-    → env.texts ≡ texts → AreKnown env ops e → ((leaf : Expr) → Contains (leaves e) leaf → gives leaf ≡ copy env comp terminal read including constituents leaf)
+abbrev pub IsCopied : List (List ℕ) → Ops → (Expr → FlatExpr → Type 0) → ℕ → Expr → FlatExpr → Type 0
+IsCopied texts ops Gives comp e made = (env : Environment) (terminal : Name → Option ℤ → FlatExpr) (read : Place → ℕ → FlatExpr) (including : List Pair → FlatExpr) (constituents : Cons → FlatExpr)
+    → env.texts ≡ texts → AreKnown env ops e → ((leaf : Expr) (x : FlatExpr) → Contains (leaves e) leaf → Gives leaf x → x ≡ copy env comp terminal read including constituents leaf)
     → made ≡ copy env comp terminal read including constituents e

@@ -1,5 +1,5 @@
 //! Copies of written expressions.
-ghost use Rattle.std.specs.Prelude.{◌≡◌, IfOk};
+ghost use Rattle.std.specs.Prelude.{IfOk};
 ghost use Rattle.lido_syntax.specs.declared.spec.Expr.{Expr as Written};
 ghost use Rattle.flat_grammar.specs.declared.flat.FlatExpr.{FlatExpr as Flat};
 ghost use Rattle.flat_copies.specs.Copied.{IsCopied};
@@ -13,11 +13,11 @@ use std::alloc::Global;
 
 /// What stands for the parts of an expression that are no calls.
 pub trait Leaves {
-    ghost gives: { Self → Written → Flat };
+    ghost Gives: { Self → Written → Flat → Type 0 };
 
     /// What stands for a part that is no call.
     fn leaf(&self, alloc: Global, part: &Expr) -> Result<FlatExpr, Memory>
-        ensures { IfOk result (λ made. made ≡ gives self.now part.now) };
+        ensures { IfOk result (Gives self.now part.now) };
 }
 
 /// An expression with other leaves, in the computation of that number. It takes time linear in the expression and what stands
@@ -30,7 +30,7 @@ pub fn copy<L: Leaves>(
     comp: u16,
     value: &Expr,
 ) -> Result<FlatExpr, Memory>
-    ensures { IfOk result (IsCopied strings.now ops.now (L.gives leaves.now) comp value.now) }
+    ensures { IfOk result (IsCopied strings.now ops.now (L.Gives leaves.now) comp value.now) }
 {
     match value {
         Expr::Call(name, args) => {

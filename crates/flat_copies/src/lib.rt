@@ -5,5 +5,6 @@ mod calls;
 mod copies;
 mod ops;
 
+pub use calls::call;
 pub use copies::{Leaves, copy};
 pub use ops::Ops;

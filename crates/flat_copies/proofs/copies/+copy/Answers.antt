@@ -17,7 +17,7 @@ loop-arg-preserved g t c = λ env terminal read including constituents texts kno
     let among : Contains args x = (c.loop-arg.arg-index, c.loop-arg-test.true, sym c.arg-item.is) in
     copies-more (copy env c.args.comp terminal read including constituents) args c.loop-arg.arg-index x c.loop-arg.copies.items c.push.new.self.items c.in_ok-copy-in-Call.field-0
     c.loop-arg-test.true c.arg-item.is (c.loop-arg.invariant env terminal read including constituents texts known agree) c.in_ok-push-in-Call.ensures.items
-    (c.in_ok-copy-in-Call.ensures env terminal read including constituents texts (known x among) (λ leaf m. agree x leaf among m))
+    (c.in_ok-copy-in-Call.ensures env terminal read including constituents texts (known x among) (λ leaf y m gives. agree x leaf y among m gives))
 
 pub returns-after-loop-arg : goal.returns-after-loop-arg
 returns-after-loop-arg g t c = λ env terminal read including constituents texts known agree.
@@ -27,7 +27,7 @@ returns-after-loop-arg g t c = λ env terminal read including constituents texts
     let known_call : AreKnown env c.args.ops.now (expr.Call f args) = subst (AreKnown env c.args.ops.now) c.in-Call.is known in
     let made = c.loop-arg.invariant env terminal read including constituents texts
     (λ arg m. args-known env c.args.ops.now f args known_call arg (subst (λ (l : List Expr). Contains l arg) c.as_slice-arg-items.ensures m))
-    (λ arg leaf m k. agree leaf (subst (λ (e : Expr). Contains (leaves e) leaf) (sym c.in-Call.is) (arg-leaf f args arg leaf (subst (λ (l : List Expr). Contains l arg) c.as_slice-arg-items.ensures m) k))) in
+    (λ arg leaf y m k gives. agree leaf y (subst (λ (e : Expr). Contains (leaves e) leaf) (sym c.in-Call.is) (arg-leaf f args arg leaf (subst (λ (l : List Expr). Contains l arg) c.as_slice-arg-items.ensures m) k)) gives) in
     c.call.ensures env texts (known_call f args (itself-in f args))
     ∙ ap (call env c.args.comp (name_of f)) (c.from_vec.ensures ∙ made ∙ ap (map (copy env c.args.comp terminal read including constituents)) (take_all c.loop-arg.arg-index items c.loop-arg-test.false ∙ c.as_slice-arg-items.ensures))
     ∙ sym (copy-Call env c.args.comp terminal read including constituents f args)

@@ -16,5 +16,5 @@ use Rattle.flat_copies.proofs.copies.+copy.Given as goal
 abbrev pub invariant-loop-arg : goal.invariant-loop-arg
 invariant-loop-arg g l = (env : Environment) (terminal : Name → Option ℤ → FlatExpr) (read : Place → ℕ → FlatExpr) (including : List Pair → FlatExpr) (constituents : Cons → FlatExpr)
     → env.texts ≡ l.strings → ((arg : Expr) → Contains l.arg-items arg → AreKnown env l.ops arg)
-    → ((arg leaf : Expr) → Contains l.arg-items arg → Contains (leaves arg) leaf → g.L.Leaves.gives l.leaves leaf ≡ copy env l.comp terminal read including constituents leaf)
+    → ((arg leaf : Expr) (x : FlatExpr) → Contains l.arg-items arg → Contains (leaves arg) leaf → g.L.Leaves.Gives l.leaves leaf x → x ≡ copy env l.comp terminal read including constituents leaf)
     → l.copies.items ≡ map (copy env l.comp terminal read including constituents) (take l.arg-index l.arg-items)

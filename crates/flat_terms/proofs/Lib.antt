@@ -1,0 +1,5 @@
+pub mod SiteLemmas
+pub mod PlaceLemmas
+pub mod FoldLemmas
+pub mod LeafLemmas
+pub mod AddedLemmas

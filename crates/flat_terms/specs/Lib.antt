@@ -1,0 +1,5 @@
+pub mod Names
+pub mod Scene
+pub mod Sites
+pub mod Folds
+pub mod Given

@@ -93,7 +93,7 @@ module _ (spec : Spec) (env : Environment) (text : IsFromText spec) (none : (at 
   -- ---- chains
 
   -- a chain's name is declared once
-  chain-twice : (i j : ℕ) (x y : Typed1) → slice_get spec.chains i ≡ Some x → slice_get spec.chains j ≡ Some y → Contains spec.chains x → Contains spec.chains y → i < j → name_of x.name ≡ name_of y.name → ⊥
+  pub chain-twice : (i j : ℕ) (x y : Typed1) → slice_get spec.chains i ≡ Some x → slice_get spec.chains j ≡ Some y → Contains spec.chains x → Contains spec.chains y → i < j → name_of x.name ≡ name_of y.name → ⊥
   chain-twice i j x y at there mx my less same =
       let within = slice_get_within spec.chains j y there in
       let first : get_or spec.chains i x ≡ x = get_or_from_slice_get spec.chains i x x at in

@@ -1,0 +1,4 @@
+pub mod Entries
+pub mod Checker
+pub mod Written
+pub mod Whole

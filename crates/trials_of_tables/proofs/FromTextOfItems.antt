@@ -47,27 +47,29 @@ function_told x y m k =
     let of_x = All-contains (λ x. IsTrue (list_all (is_told x) (all_functions spec))) (all_functions spec) x (all-tested (λ x. list_all (is_told x) (all_functions spec)) (all_functions spec) functions_told) m in
     All-contains (λ y. IsTrue (is_told x y)) (all_functions spec) y (all-tested (is_told x) (all_functions spec) of_x) k
 
+abbrev first_declared : Decl
+first_declared = record { attr = name 5 b; ty = type.Int; kind = None }
+
+abbrev second_declared : Decl
+second_declared = record { attr = name 8 t; ty = type.Int; kind = None }
+
 abbrev AreToldFrom : Decl → Type 0
 AreToldFrom d = (e : Decl) → Contains (declarations spec) e → d.attr.at ≡ e.attr.at → d ≡ e
 
 declarations_told : (d : Decl) → Contains (declarations spec) d → AreToldFrom d
-declarations_told = every AreToldFrom (declarations spec)
-    (every (λ e. (5 ≡ e.attr.at) → get_first ≡ e) (declarations spec) ((λ h. refl), ((λ h. omega (arith, h)), tt)),
-    (every (λ e. (8 ≡ e.attr.at) → get_second ≡ e) (declarations spec) ((λ h. omega (arith, h)), ((λ h. refl), tt)), tt))
-  where
-    abbrev get_first : Decl
-    get_first = record { attr = name 5 b; ty = type.Int; kind = None }
-    abbrev get_second : Decl
-    get_second = record { attr = name 8 t; ty = type.Int; kind = None }
+declarations_told = every AreToldFrom (declarations spec) (
+  every (λ e. (5 ≡ e.attr.at) → first_declared ≡ e) (declarations spec) ((λ h. refl), ((λ h. omega (arith, h)), tt)),
+  (every (λ e. (8 ≡ e.attr.at) → second_declared ≡ e) (declarations spec) ((λ h. omega (arith, h)), ((λ h. refl), tt)), tt),
+)
+
+abbrev the_term : Typed1
+the_term = record { name = name 36 Num; ty = type.Int }
 
 abbrev IsToldFrom : Typed1 → Type 0
 IsToldFrom x = (y : Typed1) → Contains spec.terms y → x.name.at ≡ y.name.at → x ≡ y
 
 terms_told : (x : Typed1) → Contains spec.terms x → IsToldFrom x
 terms_told = every IsToldFrom spec.terms (every (λ y. (36 ≡ y.name.at) → the_term ≡ y) spec.terms ((λ h. refl), tt), tt)
-  where
-    abbrev the_term : Typed1
-    the_term = record { name = name 36 Num; ty = type.Int }
 
 abbrev is_behind : ℕ × ℕ → ℕ × ℕ → Bool
 is_behind x y = nat_lt x.0 y.0 && nat_lt x.1 y.1

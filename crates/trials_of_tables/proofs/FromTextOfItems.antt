@@ -58,8 +58,8 @@ AreToldFrom d = (e : Decl) → Contains (declarations spec) e → d.attr.at ≡ 
 
 declarations_told : (d : Decl) → Contains (declarations spec) d → AreToldFrom d
 declarations_told = every AreToldFrom (declarations spec) (
-  every (λ e. (5 ≡ e.attr.at) → first_declared ≡ e) (declarations spec) ((λ h. refl), ((λ h. omega (arith, h)), tt)),
-  (every (λ e. (8 ≡ e.attr.at) → second_declared ≡ e) (declarations spec) ((λ h. omega (arith, h)), ((λ h. refl), tt)), tt),
+  every (λ e. (5 ≡ e.attr.at) → first_declared ≡ e) (declarations spec) ((λ h. refl), ((λ h. absurd (omega (arith, h))), tt)),
+  (every (λ e. (8 ≡ e.attr.at) → second_declared ≡ e) (declarations spec) ((λ h. absurd (omega (arith, h))), ((λ h. refl), tt)), tt),
 )
 
 abbrev the_term : Typed1

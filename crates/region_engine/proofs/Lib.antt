@@ -12,3 +12,8 @@ pub mod Openings
 pub mod PutKeys
 pub mod Given
 pub mod Giving
+pub mod Messages
+pub mod FinalValues
+pub mod HolderLemmas
+pub mod ToldNotes
+pub mod FinishLemmas

@@ -19,6 +19,7 @@ use Rattle.core_machine.proofs.CursorLists.{drop-item}
 use Rattle.region_engine.specs.declared.region.Region.{Region}
 use Rattle.region_engine.specs.Behind.{list, put_key, keys_of, keys_at, keys_since, words_of}
 use Rattle.region_engine.specs.Kept.{IsBehind}
+use Rattle.region_engine.specs.Notebooks.{HasNotebook}
 use Rattle.region_engine.specs.Regions.{number, WasDelivered, IsDesk, IsRegionOf, IsSame, IsWaiting}
 use Rattle.region_engine.proofs.PutKeys.{nothing-behind}
 use Rattle.region_engine.proofs.Lists.{take-more, keys-next}
@@ -47,6 +48,7 @@ module _ (j : Task) (r : ℕ) (g h : Region) where
     pub mine : h.desk.view.mine ≡ (if g.numbered then fold add_words g.desk.view.mine (put_key j x) else g.desk.view.mine)
     pub inputs : (i k : Instance) → x ≡ eval_of i → Contains (needs j i) k → (home j k ≡ home j i → ⊥) → WasDelivered h (key_of j k) ⊎ Knows h.desk (key_of j k)
     pub known : (i : Instance) → x ≡ put_of i → g.numbered ≡ true → Knows h.desk (key_of j i)
+    pub notebook : h.notebook ≡ g.notebook
 
   -- It stands where it stood.
   pub record Stayed : Type 0 where
@@ -64,6 +66,7 @@ module _ (j : Task) (r : ℕ) (g h : Region) where
     pub goes_on : GoesOn g.desk h.desk
     pub numbers : h.desk.view.numbers ≡ g.desk.view.numbers
     pub mine : h.desk.view.mine ≡ g.desk.view.mine
+    pub notebook : h.notebook ≡ g.notebook
 
   still : (key : ℕ) → ((key : ℕ) → WasDelivered g key → WasDelivered h key) → GoesOn g.desk h.desk → WasDelivered g key ⊎ Knows g.desk key → WasDelivered h key ⊎ Knows h.desk key
   still key same on (inl a) = inl (same key a)
@@ -99,6 +102,7 @@ module _ (j : Task) (r : ℕ) (g h : Region) where
         mine = m.mine ∙ at.used.mine
             ∙ (λ z. if sym m.numbered z then words_of (keys_since j r (sym m.since z) (sym m.position z)) else []);
       };
+      notebook = subst (HasNotebook j r) (sym m.notebook) at.notebook;
     }
 
     module _ (x : Item Instance) (next : slice_get (list j r) g.position ≡ Some x) (m : Moved x) where
@@ -155,6 +159,7 @@ module _ (j : Task) (r : ℕ) (g h : Region) where
           mine = m.mine ∙ words-more g.numbered g.desk.view.mine at.used.mine
               ∙ (λ z. if sym m.numbered z then words_of (keys_since j r (sym m.since z) (sym m.position z)) else []);
         };
+        notebook = subst (HasNotebook j r) (sym m.notebook) at.notebook;
       }
 
 -- the same by the number that the region has then
@@ -201,6 +206,7 @@ new-desk j r g desk numbered at is none = record {
     puts = λ yes n i low high e. absurd (omega (arith, low, high));
     mine = none ∙ nothing numbered;
   };
+  notebook = at.notebook;
 }
   where
     nothing : (b : Bool) → ◌≡◌ {A = List ℕ} [] (if b then words_of (keys_since j r g.position g.position) else [])

@@ -16,6 +16,7 @@ use Rattle.region_engine.specs.declared.region.Region.{Region}
 use Rattle.region_engine.specs.Behind.{list, cost_of, keys_at, keys_since, words_of}
 use Rattle.region_engine.specs.Kept.{AreEmpty, AreSized, IsBehind}
 use Rattle.region_engine.specs.Steps.{IsEmptyBench}
+use Rattle.region_engine.specs.Notebooks.{HasNotebook}
 use Rattle.region_engine.specs.Regions.{IsDesk, IsRegionOf}
 
 module _ (j : Task) (r : ℕ) where
@@ -53,8 +54,8 @@ module _ (j : Task) (r : ℕ) where
 
     pub opened : r ≤ length j.nodes → IsCursor j g.cursor → left j g.cursor ≡ list j r → g.count ≡ length (list j r) → g.position ≡ 0 → g.since ≡ 0
         → g.values.region ≡ r → AreSized j r g.values → AreEmpty g.values → IsEmptyBench j r g.bench → g.puts.items ≡ [] → length (keys_at j r g.count) ≤ vec_capacity g.puts
-        → IsDesk j g.desk (if g.numbered then r ∷ [] else []) → g.desk.view.mine ≡ [] → IsRegionOf j r g
-    opened is cursor whole count position since region sized empty bench puts room desk mine = record {
+        → IsDesk j g.desk (if g.numbered then r ∷ [] else []) → g.desk.view.mine ≡ [] → HasNotebook j r g.notebook → IsRegionOf j r g
+    opened is cursor whole count position since region sized empty bench puts room desk mine notebook = record {
       is_region = is;
       cursor = cursor;
       rest = whole ∙ ap (λ n. drop n (list j r)) (sym position);
@@ -84,6 +85,7 @@ module _ (j : Task) (r : ℕ) where
         puts = λ yes n i low high e. absurd (omega (arith, high, position));
         mine = mine ∙ nothing g.numbered ∙ (λ z. if g.numbered then words_of (keys_since j r (sym since z) (sym position z)) else []);
       };
+      notebook = notebook;
     }
       where
         nothing : (b : Bool) → ◌≡◌ {A = List ℕ} [] (if b then words_of (keys_since j r 0 0) else [])

@@ -5,3 +5,6 @@ pub mod Inputs
 pub mod Steps
 pub mod Regions
 pub mod Deliveries
+pub mod Notebooks
+pub mod Endings
+pub mod Finals

@@ -11,6 +11,7 @@ use Rattle.region_engine.specs.declared.region.Region.{Region}
 use Rattle.region_engine.specs.Behind.{list, keys_at, keys_since, words_of}
 use Rattle.region_engine.specs.Kept.{IsBehind}
 use Rattle.region_engine.specs.Steps.{HasKey}
+use Rattle.region_engine.specs.Notebooks.{HasNotebook}
 
 -- the number of a region
 abbrev pub number : Region → ℕ
@@ -53,6 +54,7 @@ module _ (j : Task) where
     pub since : g.since ≤ g.position
     pub desk : IsDesk g.desk (if g.numbered then r ∷ [] else [])
     pub used : IsUsed r g
+    pub notebook : HasNotebook j r g.notebook
 
   -- It is a region of the job, by its number.
   abbrev pub IsRegion : Region → Type 0

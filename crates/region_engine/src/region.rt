@@ -1,5 +1,6 @@
 //! A region at work.
-ghost use Rattle.std.specs.Prelude.{◌≡◌, ◌<◌, ◌≤◌, ℕ, Contains, ◌+◌, ◌⊎◌, true, [], ◌∷◌, if◌then◌else◌, length, slice_get, IfOk, OnOk, OnErr, Some};
+ghost use Rattle.std.specs.Prelude.{◌≡◌, ◌<◌, ◌≤◌, ℕ, Contains, ◌+◌, ◌⊎◌, true, false};
+ghost use Rattle.std.specs.Prelude.{[], ◌∷◌, if◌then◌else◌, length, slice_get, unwrap_or, IfOk, OnOk, OnErr, Some};
 ghost use Rattle.boundary_table.specs.Desk.{IsOwner};
 ghost use Rattle.flat_grammar.specs.WholeOrder.{Instance};
 ghost use Rattle.flat_grammar.specs.Instances.{instance_at};
@@ -10,16 +11,20 @@ ghost use Rattle.core_machine.specs.Cursors.{left, IsFirst};
 ghost use Rattle.region_engine.specs.Behind.{keys_at, list, named_keys};
 ghost use Rattle.region_engine.specs.Steps.{IsEmptyBench, IsLeft};
 ghost use Rattle.core_machine.specs.Keys.{contents_of};
+ghost use Rattle.lido_base.specs.declared.value.Value.TheVariants as value;
 ghost use Rattle.region_engine.specs.Deliveries.{HasNewDesk, IsGiven};
+ghost use Rattle.region_engine.specs.Kept.{own_offsets, stored, IsMarked};
 ghost use Rattle.region_engine.specs.Regions.{WasDelivered, items_left, number as number_of, IsDesk, IsOpening, IsRegion, IsSame, IsWaiting};
 
 use crate::evaluation::{Bench, evaluate_next};
+use crate::marks::Mark;
+use crate::notebook::{Notebook, notebook_of};
 use crate::sizes::{cells_of_region, stack_room};
 use crate::values::Values;
 use boundary_table::{Boundary, Desk, NotYet};
 use core_machine::{Cursor, Item, Job};
 use flat_grammar::Occ;
-use lido_base::{Memory, Value};
+use lido_base::{AttrId, Memory, Value};
 use std::alloc::Global;
 use string_librarian::Room;
 
@@ -42,6 +47,8 @@ pub struct Region {
     numbered: bool,
     /// The position at which the desk was given.
     since: u32,
+    /// What the region of the root keeps for the end; the others keep nothing.
+    notebook: Option<Notebook>,
 }
 
 /// 1 for a put, 0 for an evaluation.
@@ -122,6 +129,7 @@ impl Region {
         let values = Values::new(alloc, job, number)?;
         let bench = empty_bench(alloc, job, number)?;
         let puts = Vec::with_capacity(alloc, puts as usize)?;
+        let notebook = notebook_of(alloc, job, number)?;
         Ok(Region {
             cursor,
             count,
@@ -132,6 +140,7 @@ impl Region {
             desk,
             numbered,
             since: 0,
+            notebook,
         })
     }
 
@@ -278,6 +287,48 @@ impl Region {
     {
         job.facts();
         self.values.deliver(key, value);
+    }
+
+    /// Whether the region has something under a key.
+    pub(crate) fn has(&self, key: u32) -> bool
+        ensures yes { result ≡ true → IsMarked self.now.values.marks.items key }
+        ensures no { result ≡ false → ¬ IsMarked self.now.values.marks.items key }
+    {
+        match self.values.marks.get(key as usize) {
+            Some(Mark::Evaluated) | Some(Mark::Delivered) => true,
+            Some(Mark::Missing) | None => false,
+        }
+    }
+
+    /// The value of an attribute of a node; `Void` where the region keeps none for it.
+    pub(crate) fn value_at(&self, job: &Job, node: u32, attr: u16) -> Value
+        requires node { node < length job.now.flat }
+        requires begins { self.now.values.begins.items ≡ own_offsets job.now (number_of self.now) }
+        ensures { result ≡ unwrap_or (stored job.now (number_of self.now) self.now.values.own.items self.now.values.shared.items (node, attr)) value.Void }
+    {
+        let o = Occ {
+            occ: 0,
+            attr: AttrId(attr),
+        };
+        self.values.read(job, node, o)
+    }
+
+    /// The notebook of the region, if it has one, which it has no longer.
+    pub(crate) fn take_notebook(&mut self) -> Option<Notebook>
+        ensures notebook { result ≡ self.old.notebook }
+        ensures values { self.new.values ≡ self.old.values }
+        ensures bench { self.new.bench ≡ self.old.bench }
+    {
+        self.notebook.take()
+    }
+
+    /// The room of the region.
+    pub(crate) fn into_room(self) -> Room
+        ensures { result ≡ self.bench.room }
+    {
+        let Region { bench, .. } = self;
+        let Bench { room, .. } = bench;
+        room
     }
 
     /// Gives the region the desk of another table of the job, and gives back the one that it had. `numbered` tells whether the new

@@ -28,7 +28,7 @@ fn attributes_of(job: &Job, symbol: SymId) -> &[FlatAttr]
 }
 
 /// The attributes of a node.
-fn attributes_at(job: &Job, node: u32) -> &[FlatAttr]
+pub fn attributes_at(job: &Job, node: u32) -> &[FlatAttr]
     requires { node < length job.now.flat }
     ensures { (r : Rule) → HasRule job.now.rules job.now.flat node r → result.now ≡ attrs_of job.now.symbols r.left }
 {

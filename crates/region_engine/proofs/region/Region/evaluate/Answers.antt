@@ -54,6 +54,7 @@ returns-in-Ok-clause-region c =
       mine = going.stores.0 ∙ either-way g.numbered g.desk.view.mine;
       inputs = λ k d e need far. subst P (ap (λ (z : Item Instance). z.makes) e) c.in-Ok.ensures.inputs.each d need far;
       known = λ k e yes. absurd (true≢false (sym (ap (λ (z : Item Instance). z.is_put) e)));
+      notebook = refl;
     }) going.region
 
 pub returns-in-Err-clause-region : goal.returns-in-Err-clause-region
@@ -75,6 +76,7 @@ returns-in-Err-clause-region c =
       goes_on = going.goes_on;
       numbers = going.stores.1;
       mine = going.stores.0;
+      notebook = refl;
     }) going.region
 
 pub returns-in-Err-clause-waits : goal.returns-in-Err-clause-waits

@@ -76,4 +76,5 @@ returns-clause-region c =
       mine = c.leave.ensures.mine ∙ ap (λ k. if g.numbered then add_words g.desk.view.mine k else g.desk.view.mine) n.3;
       inputs = λ k d e need far. absurd (true≢false (ap (λ (z : Item Instance). z.is_put) e));
       known = λ k e has. subst (λ z. Knows c.leave.new.desk z) (n.3 ∙ ap (λ (z : Item Instance). key_of j z.makes) e) (c.leave.ensures.known has);
+      notebook = refl;
     })

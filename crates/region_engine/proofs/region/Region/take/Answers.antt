@@ -39,6 +39,7 @@ returns-clause-region c =
       goes_on = goes-on-here g.desk;
       numbers = refl;
       mine = refl;
+      notebook = refl;
     }) c.deliver.ensures.region
 
 pub returns-clause-given : goal.returns-clause-given

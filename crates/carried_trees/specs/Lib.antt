@@ -1,0 +1,3 @@
+pub mod Flattening
+pub mod Carry
+pub mod Holds

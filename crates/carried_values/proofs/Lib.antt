@@ -1,0 +1,9 @@
+pub mod CopyLemmas
+pub mod WrittenLemmas
+pub mod LeafLemmas
+pub mod ReachLemmas
+pub mod FoldLemmas
+pub mod GatherLemmas
+pub mod WeightLemmas
+pub mod SourceLemmas
+pub mod UseLemmas

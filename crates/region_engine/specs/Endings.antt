@@ -25,5 +25,5 @@ module _ (j : Task) where
 
   -- the region at this place has the instance's value of the final state
   abbrev pub IsHeldBy : List Region → Instance → ℕ → Type 0
-  IsHeldBy some i r = (g : Region) × (slice_get some r ≡ Some g) × (stored j g.values.region g.values.own.items g.values.shared.items
-      i ≡ (final (machine j)).values i)
+  IsHeldBy some i r = (g : Region) × (slice_get some r ≡ Some g)
+      × (stored j g.values.region g.values.own.items g.values.shared.items i ≡ (final (machine j)).values i)

@@ -109,7 +109,7 @@ impl Region {
     ///
     /// # Errors
     ///
-    /// `Memory` where memory ran out. The region needs none later.
+    /// `Memory` where memory ran out. The region needs none later; that of the root also takes the space for the notes of `finish`.
     pub fn new(
         alloc: Global,
         job: &Job,

@@ -3,3 +3,4 @@ pub mod PlaceLemmas
 pub mod FoldLemmas
 pub mod LeafLemmas
 pub mod AddedLemmas
+pub mod TermLemmas

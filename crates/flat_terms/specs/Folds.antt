@@ -14,7 +14,10 @@ module _ (scene : Scene) (number : ℕ) where
   abbrev pub con_at : ℕ → FlatExpr
   con_at j = get scene j (Con number)
 
-  -- two values joined, and the value where there is no source
+  -- what becomes of a source's attribute, two values joined, and the value where there is no source
+  abbrev pub single_at : With → FlatExpr → FlatExpr
+  single_at with a = call scene.env number (name_of with.single) (a ∷ [])
+
   abbrev pub comb_at : With → FlatExpr → FlatExpr → FlatExpr
   comb_at with a b = call scene.env number (name_of with.comb) (a ∷ b ∷ [])
 

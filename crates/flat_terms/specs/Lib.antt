@@ -3,3 +3,4 @@ pub mod Scene
 pub mod Sites
 pub mod Folds
 pub mod Given
+pub mod Terms

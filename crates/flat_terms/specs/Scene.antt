@@ -9,7 +9,7 @@ use Rattle.lido_syntax.specs.declared.spec.Comp.{Comp}
 use Rattle.lido_syntax.specs.declared.spec.Expr.{Expr}
 use Rattle.lido_syntax.specs.declared.spec.Place.{Place}
 use Rattle.lido_syntax.specs.declared.spec.RuleItem.{RuleItem}
-use Rattle.lido_syntax.specs.Computation.{Holder}
+use Rattle.lido_syntax.specs.Computation.{Holder, by_rule}
 use Rattle.flat_grammar.specs.declared.flat.Occ.{Occ}
 use Rattle.flat_grammar.specs.declared.flat.FlatExpr.{FlatExpr}
 use Rattle.rule_tables.specs.PlainRules.{PlainRule}
@@ -94,6 +94,20 @@ module _ (s : Scene) where
 
     abbrev pub dependencies_in : Comp → List Occ
     dependencies_in = copies.dependencies_in s.spec s.tables s.needs s.slots s.env s.rule s.plain s.forces tail context
+
+  -- a term in which no written computation stands, and what it depends on
+  abbrev pub value_of : Term → FlatExpr
+  value_of = made (λ chain. copies.nothing) by_rule 0
+
+  abbrev pub value_needs : Term → List Occ
+  value_needs = needed (λ chain. []) 0
+
+  -- what an extra attribute is given, and what it depends on
+  abbrev pub given : Term → FlatExpr
+  given = copies.given s.spec s.tables s.needs s.slots s.env s.rule s.plain s.forces
+
+  abbrev pub given_needs : Term → List Occ
+  given_needs = copies.given_needs s.spec s.tables s.needs s.slots s.env s.rule s.plain s.forces
 
   -- what a CONSTITUENTS depends on, and TAIL
   abbrev pub needed_below : Cons → List Occ

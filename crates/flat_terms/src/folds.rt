@@ -9,7 +9,7 @@ ghost use Rattle.rule_tables.specs.Shares.{places as places_of};
 ghost use Rattle.flat_slots.specs.Slots.{slots_in};
 ghost use Rattle.flat_terms.specs.Scene.{Scene, constituents};
 ghost use Rattle.flat_terms.specs.Sites.{IsSiteOf, IsKnownWith, IsGathered, is_among};
-ghost use Rattle.flat_terms.specs.Folds.{comb_at, null_at, con_at, folded_at, joined_at};
+ghost use Rattle.flat_terms.specs.Folds.{single_at, comb_at, null_at, con_at, folded_at, joined_at};
 
 use crate::site::{Role, Site, narrow};
 use flat_copies::call;
@@ -42,15 +42,31 @@ fn con(site: &Site, number: u32, j: usize) -> FlatExpr
 }
 
 /// The value where there is no source.
-fn null(alloc: Global, site: &Site, number: u32, with: With) -> FlatExpr
+pub fn null(alloc: Global, site: &Site, number: u32, with: With) -> FlatExpr
     ensures { (scene : Scene) → IsSiteOf scene site.now → IsKnownWith scene site.now with → number ≤ 65535 → result ≡ null_at scene number with }
 {
     let comp = narrow(number as usize);
     call(site.strings, site.ops, comp, with.null.id, List::new(alloc))
 }
 
+/// What becomes of a source's attribute.
+pub fn single(
+    alloc: Global,
+    site: &Site,
+    number: u32,
+    with: With,
+    value: FlatExpr,
+) -> Result<FlatExpr, Memory>
+    ensures { IfOk result (λ made. (scene : Scene) → IsSiteOf scene site.now → IsKnownWith scene site.now with → number ≤ 65535
+        → made ≡ single_at scene number with value) }
+{
+    let comp = narrow(number as usize);
+    let args = List::from_vec(vec![in alloc; value]?);
+    Ok(call(site.strings, site.ops, comp, with.single.id, args))
+}
+
 /// Two values, joined.
-fn comb(
+pub fn comb(
     alloc: Global,
     site: &Site,
     number: u32,

@@ -114,13 +114,20 @@ impl Site<'_> {
         }
     }
 
+    /// Whether the symbol has the attribute.
+    pub fn bears(&self, symbol: SymId, slot: Slot) -> bool
+        ensures { result ≡ is_among (slot_of slot) (slots_in self.now.slots.now symbol.0) }
+    {
+        match self.slots.rows.as_slice().get(symbol.0 as usize) {
+            Some(row) => row.number(slot) < row.len(),
+            None => false,
+        }
+    }
+
     /// Whether the symbol has the attribute of the CONSTITUENTS of that number.
     pub fn has_con(&self, symbol: SymId, number: u32) -> bool
         ensures { result ≡ is_among (Con number) (slots_in self.now.slots.now symbol.0) }
     {
-        match self.slots.rows.as_slice().get(symbol.0 as usize) {
-            Some(row) => row.number(Slot::Con(number)) < row.len(),
-            None => false,
-        }
+        self.bears(symbol, Slot::Con(number))
     }
 }

@@ -1,0 +1,4 @@
+pub mod Reach
+pub mod Listings
+pub mod Sources
+pub mod Paths

@@ -1,0 +1,5 @@
+pub mod FaultLemmas
+pub mod MadeLemmas
+pub mod OrderLemmas
+pub mod ExtraLemmas
+pub mod ExpandLemmas

@@ -22,3 +22,10 @@ pub fn tables_within_limits()
     ensures { (env later : Environment) (t : Rows) → IsFromText t.spec → HasIds env.texts t.spec → Gains env.texts later.texts
         → HasNone (table_faults t.spec env) → AreTablesOf later t → AreWithin t }
 {}
+
+/// Where a specification has no fault of its tables over texts of which its names are ids, it has none over these texts and more behind
+/// them.
+pub fn no_later_faults()
+    ensures { (spec : Specification) (env later : Environment) → HasIds env.texts spec → Gains env.texts later.texts
+        → HasNone (table_faults spec env) → HasNone (table_faults spec later) }
+{}
